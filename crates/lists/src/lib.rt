@@ -1,0 +1,10 @@
+//! Lists of bytes and of items that grow at their end, and want of memory, the one answer without a cause.
+#![tactic(auto)]
+
+mod bytes;
+mod list;
+mod memory;
+
+pub use bytes::Bytes;
+pub use list::List;
+pub use memory::OutOfMemory;
