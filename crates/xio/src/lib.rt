@@ -2,6 +2,14 @@
 #![tactic(auto)]
 
 mod action;
+mod failed;
+mod files;
+mod sink;
+mod source;
 
 pub use action::Action;
+pub use failed::Failed;
+pub use files::{FileFault, Files};
 pub use lists::{Bytes, List, OutOfMemory};
+pub use sink::Sink;
+pub use source::Source;

@@ -1,0 +1,18 @@
+-- Why a call of the outside failed: the object counts its faults, and the count rose in that call.
+use Rattle.std.specs.Prelude.{◌≡◌, ℕ, ◌+◌, ◌-◌, ◌^◌, ◌≤◌, min, Result, Err, OnErr}
+use Rattle.xio.specs.declared.files.FileFault.{FileFault}
+use Rattle.xio.specs.declared.files.FileFault.TheVariants.{Failed}
+
+-- the count rose, or stands at the last value of its type
+abbrev pub Rose : ℕ → ℕ → Type 0
+Rose before now = min (before + 1) (2 ^ 64 - 1) ≤ now
+
+-- a count never falls, and a call fails only where it rose
+pub record HasCause {T E : Type 0} (before now : ℕ) (result : Result T E) : Type 0 where
+  pub later : before ≤ now
+  pub failed : OnErr result (Rose before now)
+
+-- the same for a call that may also want memory, which has no cause
+pub record HasFileCause {T : Type 0} (before now : ℕ) (result : Result T FileFault) : Type 0 where
+  pub later : before ≤ now
+  pub failed : result ≡ Err Failed → Rose before now
