@@ -17,4 +17,4 @@ extend x bits = residue 64 (signed bits (x % 2 ^ bits))
 -- n binary digits, each of them f of the digits of a and b in its place
 unfoldable pub bitwise : ℕ → (ℕ → ℕ → ℕ) → ℕ → ℕ → ℕ
 bitwise zero f a b = 0
-bitwise (suc n) f a b = f (a % 2) (b % 2) + 2 * bitwise n f (a / 2) (b / 2)
+bitwise (suc n) f a b = bitwise n f (a / 2) (b / 2) * 2 + f (a % 2) (b % 2)

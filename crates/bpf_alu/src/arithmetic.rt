@@ -50,7 +50,7 @@ macro_rules! operate {
 
 /// The target after an operation on 64 bits.
 #[inline]
-#[tactic(auto, unfolding(crate::specs::Op::alu))]
+#[tactic(auto, using(crate::proofs::Lemmas::operations), unfolding(crate::specs::Op::alu))]
 pub fn alu64(op: Op, target: u64, source: u64) -> u64
     ensures { result ≡ alu 64 op target source }
 {
@@ -67,7 +67,7 @@ pub fn alu32(op: Op, target: u64, source: u64) -> u64
 }
 
 #[inline]
-#[tactic(auto, unfolding(crate::specs::Op::alu))]
+#[tactic(auto, using(crate::proofs::Lemmas::operations), unfolding(crate::specs::Op::alu))]
 fn operate32(op: Op, target: u32, source: u32) -> u32
     ensures { result ≡ alu 32 op target source }
 {

@@ -11,6 +11,7 @@ pub enum Order {
 
 /// The low `bits` bits in the order that is asked, zero-extended; the machine is little endian.
 #[inline]
+#[tactic(auto, using(crate::proofs::Lemmas::orders), unfolding(crate::specs::Order::swap))]
 pub fn swap(order: Order, value: u64, bits: u32) -> u64
     requires { (bits ≡ 16) ⊎ ((bits ≡ 32) ⊎ (bits ≡ 64)) }
     ensures { result ≡ swap order value bits }

@@ -3,6 +3,7 @@ ghost use Rattle.bpf_alu.specs.Numbers.{extend};
 
 /// The low `bits` bits, sign-extended to 64 (RFC 9669, sections 4.1 and 5.2).
 #[inline]
+#[tactic(auto, using(crate::proofs::Lemmas::extensions))]
 pub fn extend(value: u64, bits: u32) -> u64
     requires { (bits ≡ 8) ⊎ ((bits ≡ 16) ⊎ (bits ≡ 32)) }
     ensures { result ≡ extend value bits }
