@@ -1,5 +1,5 @@
 -- All eight bytes reversed, shifted down, are the low bytes reversed.
-use Rattle.std.proofs.Common.{◌≡◌, ℕ, zero, suc, ◌+◌, ◌-◌, ◌*◌, ◌/◌, ◌%◌, ◌^◌, ◌<◌, ◌≤◌, List, [], ◌∷◌, ◌++◌, length, reverse, refl, sym, ◌∙◌, ap, subst, arith, pow-suc, suc-add, zero-add, div-one, mul-le-mul_left, inl, inr, ◌⊎◌}
+use Rattle.std.proofs.Common.{◌≡◌, ℕ, zero, suc, ◌+◌, ◌-◌, ◌*◌, ◌/◌, ◌%◌, ◌^◌, ◌<◌, ◌≤◌, List, [], ◌∷◌, ◌++◌, length, reverse, refl, sym, ◌∙◌, ap, arith, pow-suc, suc-add, zero-add, div-one, mul-le-mul_left, inl, inr, ◌⊎◌}
 use Rattle.std.specs.Int.{swap_bytes, w64}
 use Rattle.std.proofs.Math.Nat.{div-div-eq-div-mul, pow-succ'}
 use Rattle.std.proofs.lemmas.List.{reverse-append, length-reverse}
@@ -41,7 +41,7 @@ unfolding bytes_of number_of
 backward-split zero j x = rw (zero-add j, div-one x) (omega arith)
 backward-split (suc k) j x =
     rw (suc-add k j, backward-suc (k + j) x, backward-split k j (x / 256), backward-suc k x, div-div-eq-div-mul x 256 (256 ^ k), sym (pow-succ' 256 k), pow-add 256 k j)
-      (omega arith)
+    (omega arith)
 
 pub backward_by_shift : (k j x : ℕ) → backward (k + j) x / 256 ^ j ≡ backward k x
 backward_by_shift k j x = rw (backward-split k j x) (div-mul-add (backward k x) (256 ^ j) (backward j (x / 256 ^ k)) (backward_below j (x / 256 ^ k)))

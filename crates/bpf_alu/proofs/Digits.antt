@@ -29,4 +29,4 @@ differ_sum (suc (suc x)) y p q = absurd (omega arith)
 pub bitwise_xor : (n a b : ℕ) → a < 2 ^ n → b < 2 ^ n → bitwise n (λ x y. (x + y) % 2) a b ≡ bit_xor a b
 bitwise_xor =
     bitwise_is (λ x y. (x + y) % 2) bit_xor refl
-      (λ a b. xor_step a b ∙ ap (λ d. bit_xor (a / 2) (b / 2) * 2 + d) (differ_sum (a % 2) (b % 2) (omega arith) (omega arith)))
+    (λ a b. xor_step a b ∙ ap (λ d. bit_xor (a / 2) (b / 2) * 2 + d) (differ_sum (a % 2) (b % 2) (omega arith) (omega arith)))

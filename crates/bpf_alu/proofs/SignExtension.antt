@@ -42,12 +42,13 @@ signed_shr h s low p = rw (suc-add h s) (⊎_elim below above (cases_lt low (2 ^
   where
     below : low < 2 ^ h → shr_z (signed (suc (h + s)) (low * 2 ^ s)) (2 ^ s) ≡ signed (suc h) low
     below q = rw (signed_low (h + s) (low * 2 ^ s) (shl_below low h s q), signed_low h low q) (ap pos (shl-shr low s))
+
     above : 2 ^ h ≤ low → shr_z (signed (suc (h + s)) (low * 2 ^ s)) (2 ^ s) ≡ signed (suc h) low
     above q =
         let under : 2 ^ (h + s) ≤ low * 2 ^ s = rw (pow-add 2 h s) (mul-le-mul_right (2 ^ s) q) in
         let over : low * 2 ^ s < 2 ^ suc (h + s) = rw (sym (suc-add h s)) (shl_below low (suc h) s p) in
         rw (signed_high (h + s) (low * 2 ^ s) under over, signed_high h low q p)
-          (ap negsuc (rw (sym (suc-add h s)) (negative_shr (suc h) s low p)))
+        (ap negsuc (rw (sym (suc-add h s)) (negative_shr (suc h) s low p)))
 
 shifted_up : (b s v : ℕ) → v * 2 ^ s % 2 ^ (b + s) ≡ v % 2 ^ b * 2 ^ s
 shifted_up b s v = rw (mod-pow-add (v * 2 ^ s) b s, shl-shr v s, mul-mod_left v (2 ^ s)) (add-zero (v % 2 ^ b * 2 ^ s))
@@ -61,10 +62,10 @@ at_64 : (h s v : ℕ) → suc h + s ≡ 64 → of_z w64 (shr_z (to_z w64 (v * 2 
 at_64 h s v whole =
     let up : v * 2 ^ s % 2 ^ 64 < 2 ^ 64 = omega arith in
     let back : shr_z (signed 64 (v * 2 ^ s % 2 ^ 64)) (2 ^ s) ≡ signed (suc h) (v % 2 ^ suc h) =
-      subst (λ n. shr_z (signed n (v * 2 ^ s % 2 ^ n)) (2 ^ s) ≡ signed (suc h) (v % 2 ^ suc h)) whole (shifts_extend h s v)
+    subst (λ n. shr_z (signed n (v * 2 ^ s % 2 ^ n)) (2 ^ s) ≡ signed (suc h) (v % 2 ^ suc h)) whole (shifts_extend h s v)
     in
     let range : mag (shr_z (to_z w64 (v * 2 ^ s % 2 ^ 64)) (2 ^ s)) < 2 ^ 64 =
-      omega (arith, mag_shr (to_z w64 (v * 2 ^ s % 2 ^ 64)) (2 ^ s), signed_range w64 (v * 2 ^ s % 2 ^ 64) up)
+    omega (arith, mag_shr (to_z w64 (v * 2 ^ s % 2 ^ 64)) (2 ^ s), signed_range w64 (v * 2 ^ s % 2 ^ 64) up)
     in
     sym (residue_is w64 _ range) ∙ ap (λ z. residue 64 (shr_z z (2 ^ s))) (sym (signed_is w64 (v * 2 ^ s % 2 ^ 64) up)) ∙ ap (residue 64) back
 

@@ -1,10 +1,10 @@
 -- What the operations of the signed and unsigned types give, in the words of the definitions.
-use Rattle.std.proofs.Common.{◌≡◌, ℕ, zero, suc, ◌+◌, ◌-◌, ◌*◌, ◌/◌, ◌%◌, ◌^◌, ◌<◌, ◌≤◌, Bool, true, false, if◌then◌else◌, ◌⊎◌, ℤ, pos, negsuc, ◌-ℤ◌, neg_ℤ, refl, sym, ◌∙◌, ap, subst, arith, nat_lt, int_div, int_rem, mod-eq_of_lt, le_trans, lt_of_le_of_lt, div-le_self, ⊎_elim, Fits, SFits, to_z, of_z}
+use Rattle.std.proofs.Common.{sym, ◌≡◌, ℕ, zero, suc, ◌+◌, ◌-◌, ◌/◌, ◌%◌, ◌^◌, ◌<◌, ◌≤◌, Bool, true, false, if◌then◌else◌, ℤ, pos, negsuc, ◌-ℤ◌, neg_ℤ, refl, arith, nat_lt, int_div, int_rem, mod-eq_of_lt, div-le_self, ⊎_elim, to_z, of_z}
 use Rattle.std.specs.Int.{Width, w8, w16, w32, w64, w128, int_div_euclid}
 use Rattle.std.specs.Int.Signed.{mag, mag_rem, mag_shr, shr_z}
 use Rattle.std.proofs.Math.Nat.{add-mod_right, mod_self, sub-zero}
 use Rattle.std.proofs.lemmas.Bool.{cases_lt}
-use Rattle.std.proofs.lemmas.Int.{ints, of_z-to_z}
+use Rattle.std.proofs.lemmas.Int.{ints}
 use mir.Val.{bits, hbits, sel}
 use mir.ValLaws.{pow-bits, to_z-Fits}
 use Rattle.bpf_alu.specs.Numbers.{signed, residue}
@@ -32,6 +32,12 @@ pub signed_is : (w : Width) (a : ℕ) → a < 2 ^ bits w → signed (bits w) a �
 unfolding signed
 signed_is w a h = rw (half_is w) (chosen (nat_lt a (2 ^ hbits w)) _ _ _ (minus_above a (2 ^ bits w) h))
 
+pub signed_32 : (a : ℕ) → a < 2 ^ 32 → signed 32 a ≡ to_z w32 a
+signed_32 = signed_is w32
+
+pub signed_64 : (a : ℕ) → a < 2 ^ 64 → signed 64 a ≡ to_z w64 a
+signed_64 = signed_is w64
+
 -- ---- residues
 
 pub residue_is : (w : Width) (z : ℤ) → mag z < 2 ^ bits w → residue (bits w) z ≡ of_z w z
@@ -48,6 +54,7 @@ residue_minus n a b p q = ⊎_elim below above (cases_lt a b)
         let low : b - suc a < 2 ^ n = omega arith in
         let sum : a + (2 ^ n - b) < 2 ^ n = omega arith in
         rw (minus_above a b h, mod-eq_of_lt low, mod-eq_of_lt sum) (omega arith)
+
     above : b ≤ a → residue n (pos a -ℤ pos b) ≡ (a + (2 ^ n - b)) % 2 ^ n
     above h =
         let sum : a + (2 ^ n - b) ≡ (a - b) + 2 ^ n = omega arith in
@@ -80,34 +87,15 @@ signed_range w a h = (to_z-Fits w a (record { fits = h })).sfits
 quotient_is : (w : Width) (a : ℕ) (z : ℤ) → a < 2 ^ bits w → mag z ≤ suc (mag (to_z w a)) → residue (bits w) z ≡ of_z w z
 quotient_is w a z h le = residue_is w z (omega (arith, pow-bits w, signed_range w a h))
 
-pub div_is : (w : Width) (a b : ℕ) → a < 2 ^ bits w → b < 2 ^ bits w → residue (bits w) (int_div (signed (bits w) a) (signed (bits w) b)) ≡ of_z w (int_div (to_z w a) (to_z w b))
-div_is w a b p q = rw (signed_is w a p, signed_is w b q) (quotient_is w a _ p (mag_div (to_z w a) (to_z w b)))
+pub div_is : (w : Width) (a b : ℕ) → a < 2 ^ bits w → b < 2 ^ bits w → of_z w (int_div (to_z w a) (to_z w b)) ≡ residue (bits w) (int_div (signed (bits w) a) (signed (bits w) b))
+div_is w a b p q = rw (signed_is w a p, signed_is w b q) (sym (quotient_is w a _ p (mag_div (to_z w a) (to_z w b))))
 
-pub rem_is : (w : Width) (a b : ℕ) → a < 2 ^ bits w → b < 2 ^ bits w → residue (bits w) (int_rem (signed (bits w) a) (signed (bits w) b)) ≡ of_z w (int_rem (to_z w a) (to_z w b))
-rem_is w a b p q = rw (signed_is w a p, signed_is w b q) (quotient_is w a _ p (omega (arith, mag_rem (to_z w a) (to_z w b))))
+pub rem_is : (w : Width) (a b : ℕ) → a < 2 ^ bits w → b < 2 ^ bits w → of_z w (int_rem (to_z w a) (to_z w b)) ≡ residue (bits w) (int_rem (signed (bits w) a) (signed (bits w) b))
+rem_is w a b p q = rw (signed_is w a p, signed_is w b q) (sym (quotient_is w a _ p (omega (arith, mag_rem (to_z w a) (to_z w b)))))
 
 div_euclid_is : (x : ℤ) (m : ℕ) → int_div_euclid x (pos m) ≡ shr_z x m
 div_euclid_is (pos a) m = refl
 div_euclid_is (negsuc a) m = refl
 
-pub shr_is : (w : Width) (a m : ℕ) → a < 2 ^ bits w → residue (bits w) (int_div_euclid (signed (bits w) a) (pos m)) ≡ of_z w (shr_z (to_z w a) m)
-shr_is w a m p = rw (signed_is w a p, div_euclid_is (to_z w a) m) (quotient_is w a _ p (omega (arith, mag_shr (to_z w a) m)))
-
--- ---- at the two widths
-
-pub signed_32 : (a : ℕ) → a < 2 ^ 32 → signed 32 a ≡ to_z w32 a
-signed_32 = signed_is w32
-pub signed_64 : (a : ℕ) → a < 2 ^ 64 → signed 64 a ≡ to_z w64 a
-signed_64 = signed_is w64
-pub div_32 : (a b : ℕ) → a < 2 ^ 32 → b < 2 ^ 32 → residue 32 (int_div (signed 32 a) (signed 32 b)) ≡ of_z w32 (int_div (to_z w32 a) (to_z w32 b))
-div_32 = div_is w32
-pub div_64 : (a b : ℕ) → a < 2 ^ 64 → b < 2 ^ 64 → residue 64 (int_div (signed 64 a) (signed 64 b)) ≡ of_z w64 (int_div (to_z w64 a) (to_z w64 b))
-div_64 = div_is w64
-pub rem_32 : (a b : ℕ) → a < 2 ^ 32 → b < 2 ^ 32 → residue 32 (int_rem (signed 32 a) (signed 32 b)) ≡ of_z w32 (int_rem (to_z w32 a) (to_z w32 b))
-rem_32 = rem_is w32
-pub rem_64 : (a b : ℕ) → a < 2 ^ 64 → b < 2 ^ 64 → residue 64 (int_rem (signed 64 a) (signed 64 b)) ≡ of_z w64 (int_rem (to_z w64 a) (to_z w64 b))
-rem_64 = rem_is w64
-pub shr_32 : (a m : ℕ) → a < 2 ^ 32 → residue 32 (int_div_euclid (signed 32 a) (pos m)) ≡ of_z w32 (shr_z (to_z w32 a) m)
-shr_32 = shr_is w32
-pub shr_64 : (a m : ℕ) → a < 2 ^ 64 → residue 64 (int_div_euclid (signed 64 a) (pos m)) ≡ of_z w64 (shr_z (to_z w64 a) m)
-shr_64 = shr_is w64
+pub shr_is : (w : Width) (a m : ℕ) → a < 2 ^ bits w → of_z w (shr_z (to_z w a) m) ≡ residue (bits w) (int_div_euclid (signed (bits w) a) (pos m))
+shr_is w a m p = rw (signed_is w a p, div_euclid_is (to_z w a) m) (sym (quotient_is w a _ p (omega (arith, mag_shr (to_z w a) m))))

@@ -1,4 +1,4 @@
--- The numbers of n bits: residues modulo 2 ^ n, their reading in two's complement, and their binary digits.
+-- Numbers of n bits: residues modulo 2 ^ n, their reading in two's complement, and their binary digits.
 use Rattle.std.specs.Prelude.{ℕ, zero, suc, ◌+◌, ◌-◌, ◌*◌, ◌/◌, ◌%◌, ◌^◌, ℤ, pos, ◌-ℤ◌, unsigned_abs, nat_lt, if◌then◌else◌}
 use Rattle.std.specs.Int.{int_rem_euclid}
 
@@ -10,7 +10,7 @@ residue n z = unsigned_abs (int_rem_euclid z (pos (2 ^ n)))
 unfoldable pub signed : ℕ → ℕ → ℤ
 signed n x = if nat_lt x (2 ^ (n - 1)) then pos x else pos x -ℤ pos (2 ^ n)
 
--- the low bits of x in two's complement, as a number of 64 bits
+-- the low bits of x, sign-extended to 64 bits (RFC 9669, section 2.3)
 unfoldable pub extend : ℕ → ℕ → ℕ
 extend x bits = residue 64 (signed bits (x % 2 ^ bits))
 

@@ -1,12 +1,13 @@
--- RFC 9669, section 4.1.
 use Rattle.std.specs.Prelude.{ℕ, ◌+◌, ◌*◌, ◌/◌, ◌%◌, ◌^◌, min, max, pos, ◌-ℤ◌, neg_ℤ, int_div, int_rem, ◌==◌, if◌then◌else◌}
 use Rattle.std.specs.Int.{int_div_euclid}
 use Rattle.bpf_alu.specs.declared.arithmetic.Op.{Op}
 use Rattle.bpf_alu.specs.declared.arithmetic.Op.TheVariants.{Add, Sub, Mul, Div, Sdiv, Or, And, Lsh, Rsh, Neg, Mod, Smod, Xor, Mov, Arsh}
 use Rattle.bpf_alu.specs.Numbers.{residue, signed, bitwise}
 
--- What an operation gives at n bits, of a target a and a source b below 2 ^ n.
+-- What an operation gives at n bits, of a target a and a source b below 2 ^ n (RFC 9669, section 4.1).
 -- `int_div` rounds toward zero and `int_rem` is what it leaves; `int_div_euclid` by a power of two rounds down.
+-- The least number over -1 is 2 ^ (n - 1), and in two's complement that residue is the least number again.
+-- Of two binary digits `min` is their and, `max` their or, and the sum modulo 2 their exclusive or.
 unfoldable pub alu : ℕ → Op → ℕ → ℕ → ℕ
 alu n Add a b = (a + b) % 2 ^ n
 alu n Sub a b = residue n (pos a -ℤ pos b)

@@ -1,4 +1,3 @@
--- RFC 9669, section 4.2, on a little endian machine.
 use Rattle.std.specs.Prelude.{ℕ, zero, suc, ◌+◌, ◌*◌, ◌/◌, ◌%◌, ◌^◌, List, [], ◌∷◌, reverse}
 use Rattle.bpf_alu.specs.declared.byte_order.Order.{Order}
 use Rattle.bpf_alu.specs.declared.byte_order.Order.TheVariants.{ToLittle, ToBig, Swap}
@@ -13,7 +12,7 @@ unfoldable pub number_of : List ℕ → ℕ
 number_of [] = 0
 number_of (b ∷ bs) = b + 256 * number_of bs
 
--- the low bits of x in the order that is asked
+-- the low bits of x in the order that is asked, on a little endian machine (RFC 9669, section 4.2)
 unfoldable pub swap : Order → ℕ → ℕ → ℕ
 swap ToLittle x bits = x % 2 ^ bits
 swap ToBig x bits = number_of (reverse (bytes_of (bits / 8) x))

@@ -1,10 +1,10 @@
--- RFC 9669, section 4.3.
 use Rattle.std.specs.Prelude.{ℕ, Bool, not, min, ◌==◌, nat_lt, nat_le, int_lt, int_le}
 use Rattle.bpf_alu.specs.declared.comparison.Test.{Test}
 use Rattle.bpf_alu.specs.declared.comparison.Test.TheVariants.{Eq, Gt, Ge, Set, Ne, Sgt, Sge, Lt, Le, Slt, Sle}
 use Rattle.bpf_alu.specs.Numbers.{signed, bitwise}
 
--- whether a test holds at n bits, of numbers a and b below 2 ^ n; `Set` asks for a digit that is 1 in both
+-- Whether a test holds at n bits, of numbers a and b below 2 ^ n (RFC 9669, section 4.3).
+-- `Set` asks for a binary digit that is 1 in both.
 unfoldable pub compare : ℕ → Test → ℕ → ℕ → Bool
 compare n Eq a b = a == b
 compare n Gt a b = nat_lt b a

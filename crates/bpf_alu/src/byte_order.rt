@@ -13,7 +13,7 @@ pub enum Order {
 #[inline]
 #[tactic(auto, using(crate::proofs::Lemmas::orders), unfolding(crate::specs::Order::swap))]
 pub fn swap(order: Order, value: u64, bits: u32) -> u64
-    requires { (bits ≡ 16) ⊎ ((bits ≡ 32) ⊎ (bits ≡ 64)) }
+    requires { (bits ≡ 16) ⊎ (bits ≡ 32) ⊎ (bits ≡ 64) }
     ensures { result ≡ swap order value bits }
 {
     let spare = 64 - bits;

@@ -5,7 +5,7 @@ ghost use Rattle.bpf_alu.specs.Numbers.{extend};
 #[inline]
 #[tactic(auto, using(crate::proofs::Lemmas::extensions))]
 pub fn extend(value: u64, bits: u32) -> u64
-    requires { (bits ≡ 8) ⊎ ((bits ≡ 16) ⊎ (bits ≡ 32)) }
+    requires { (bits ≡ 8) ⊎ (bits ≡ 16) ⊎ (bits ≡ 32) }
     ensures { result ≡ extend value bits }
 {
     let spare = 64 - bits;
