@@ -3,7 +3,8 @@ ghost use Rattle.bpf_alu.specs.Op.{alu};
 
 use crate::half::low_half;
 
-/// An arithmetic operation (RFC 9669, section 4.1); `Sdiv` and `Smod` are the signed forms.
+/// An arithmetic operation (RFC 9669, section 4.1).
+/// `Sdiv` and `Smod` are signed and round toward zero, `Arsh` copies the sign, and `Neg` reads no source.
 #[derive(Clone, Copy, PartialEq, Eq, Debug)]
 pub enum Op {
     Add,
@@ -23,7 +24,7 @@ pub enum Op {
     Arsh,
 }
 
-/// The operation on a target and a source of one width, of which `$bits` is the number of bits.
+/// The operation on a target and a source of `$bits` bits.
 macro_rules! operate {
     ($op:ident, $target:ident, $source:ident, $bits:literal) => {
         match $op {
@@ -50,7 +51,7 @@ macro_rules! operate {
     };
 }
 
-/// The target after an operation on 64 bits.
+/// The target after an operation on 64 bits; an immediate source is one that the caller has sign-extended.
 #[inline]
 #[tactic(auto, using(crate::proofs::Lemmas::operations), unfolding(crate::specs::Op::alu))]
 pub fn alu64(op: Op, target: u64, source: u64) -> u64
@@ -59,7 +60,7 @@ pub fn alu64(op: Op, target: u64, source: u64) -> u64
     operate!(op, target, source, 64)
 }
 
-/// The target after an operation on the low halves of both registers.
+/// The target after an operation on the low halves of both registers: the result's upper half is zero.
 #[inline]
 pub fn alu32(op: Op, target: u64, source: u64) -> u64
     ensures value { result ≡ alu 32 op (target % 2 ^ 32) (source % 2 ^ 32) }

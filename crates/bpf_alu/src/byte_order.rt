@@ -9,7 +9,8 @@ pub enum Order {
     Swap,
 }
 
-/// The low `bits` bits in the order that is asked, zero-extended; the machine is little endian.
+/// The low `bits` bits in the order that is asked, zero-extended. The machine is little endian, so
+/// `ToLittle` leaves their order and the others reverse their bytes.
 #[inline]
 #[tactic(auto, using(crate::proofs::Lemmas::orders), unfolding(crate::specs::Order::swap))]
 pub fn swap(order: Order, value: u64, bits: u32) -> u64

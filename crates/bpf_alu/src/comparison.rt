@@ -4,6 +4,7 @@ ghost use Rattle.bpf_alu.specs.Test.{compare};
 use crate::half::low_half;
 
 /// What a conditional jump asks of two registers (RFC 9669, section 4.3).
+/// `Set` asks for a bit that both have; `Sgt`, `Sge`, `Slt` and `Sle` are signed.
 #[derive(Clone, Copy, PartialEq, Eq, Debug)]
 pub enum Test {
     Eq,

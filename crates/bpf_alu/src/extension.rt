@@ -1,7 +1,7 @@
 ghost use Rattle.std.specs.Prelude.{◌≡◌, ◌⊎◌};
 ghost use Rattle.bpf_alu.specs.Numbers.{extend};
 
-/// The low `bits` bits, sign-extended to 64 (RFC 9669, sections 4.1 and 5.2).
+/// The low `bits` bits, sign-extended to 64 (RFC 9669, section 2.3).
 #[inline]
 #[tactic(auto, using(crate::proofs::Lemmas::extensions))]
 pub fn extend(value: u64, bits: u32) -> u64
