@@ -9,7 +9,7 @@ use Rattle.bpf_alu.proofs.TwosComplement.{signed_32, signed_64, div_is, rem_is, 
 pub ruleset operations = (bitwise_and, bitwise_or, bitwise_xor, residue_minus, residue_neg, div_is, rem_is, shr_is, to_z-of_z, of_z-to_z)
 
 -- what the arms of a test give
-pub ruleset tests = (bitwise_and, signed_32, signed_64, to_z-of_z)
+pub ruleset comparisons = (bitwise_and, signed_32, signed_64, to_z-of_z)
 
 -- what the shifts of an extension give
 pub ruleset extensions = (extend_is, to_z-of_z, of_z-to_z)

@@ -41,7 +41,7 @@ macro_rules! compare {
 
 /// Whether the test holds of all 64 bits.
 #[inline]
-#[tactic(auto, using(crate::proofs::Lemmas::tests), unfolding(crate::specs::Test::compare))]
+#[tactic(auto, using(crate::proofs::Lemmas::comparisons), unfolding(crate::specs::Test::compare))]
 pub fn compare64(test: Test, left: u64, right: u64) -> bool
     ensures { result ≡ compare 64 test left right }
 {
@@ -50,7 +50,7 @@ pub fn compare64(test: Test, left: u64, right: u64) -> bool
 
 /// Whether the test holds of the low halves.
 #[inline]
-#[tactic(auto, using(crate::proofs::Lemmas::tests), unfolding(crate::specs::Test::compare))]
+#[tactic(auto, using(crate::proofs::Lemmas::comparisons), unfolding(crate::specs::Test::compare))]
 pub fn compare32(test: Test, left: u64, right: u64) -> bool
     ensures { result ≡ compare 32 test (left % 2 ^ 32) (right % 2 ^ 32) }
 {

@@ -77,7 +77,7 @@ fn operations(rt: HostRuntime) {
 }
 
 /// A test, its two registers, and whether it holds at 64 and at 32 bits.
-const TESTS: [(Test, u64, u64, bool, bool); 26] = [
+const COMPARISONS: [(Test, u64, u64, bool, bool); 26] = [
     (Test::Eq, MAX, MAX, true, true),
     (Test::Eq, 0x1_0000_0000, 0, false, true),
     (Test::Gt, 0, 0, false, false),
@@ -107,8 +107,8 @@ const TESTS: [(Test, u64, u64, bool, bool); 26] = [
 ];
 
 #[test]
-fn tests(rt: HostRuntime) {
-    for (test, left, right, at_64, at_32) in TESTS {
+fn comparisons(rt: HostRuntime) {
+    for (test, left, right, at_64, at_32) in COMPARISONS {
         assert_eq!(rt;
             compare64(test, left, right),
             at_64,
