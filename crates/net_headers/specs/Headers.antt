@@ -1,0 +1,35 @@
+use Rattle.std.specs.Prelude.{ℕ, ◌==◌, List, if◌then◌else◌}
+use Rattle.net_headers.specs.Bytes.{number_at}
+use Rattle.net_headers.specs.Ethernet.{ether_type_of, has_cut_tag, packet_of}
+use Rattle.net_headers.specs.Ipv4.{ipv4_net, ipv4_ports}
+use Rattle.net_headers.specs.Ipv6.{ipv6_net, ipv6_ports}
+use Rattle.net_headers.specs.declared.fields.Headers.{Headers}
+use Rattle.net_headers.specs.declared.fields.Net.{Net}
+use Rattle.net_headers.specs.declared.fields.Net.TheVariants as net
+use Rattle.net_headers.specs.declared.fields.Ports.{Ports}
+use Rattle.net_headers.specs.declared.fields.Ports.TheVariants as ports
+
+-- the types of IPv4 (RFC 894) and IPv6 (RFC 2464 §3); neither is in a frame that ends inside a tag
+unfoldable pub net_of : List ℕ → Net
+net_of frame =
+    if ether_type_of frame == 0x0800 then ipv4_net (packet_of frame)
+    else if ether_type_of frame == 0x86DD then ipv6_net (packet_of frame)
+    else if has_cut_tag frame then net.Cut
+    else net.Absent
+
+unfoldable pub frame_ports : List ℕ → Ports
+frame_ports frame =
+    if ether_type_of frame == 0x0800 then ipv4_ports (packet_of frame)
+    else if ether_type_of frame == 0x86DD then ipv6_ports (packet_of frame)
+    else ports.Absent
+
+-- The header fields of a frame of at least 14 bytes. It begins with the destination address, of 6 bytes, and the source
+-- address (IEEE 802.3 §3.2).
+abbrev pub headers_of : List ℕ → Headers
+headers_of frame = record {
+  source = number_at frame 6 6;
+  target = number_at frame 0 6;
+  ether_type = ether_type_of frame;
+  net = net_of frame;
+  ports = frame_ports frame;
+}

@@ -1,0 +1,44 @@
+use Rattle.std.specs.Prelude.{ℕ, zero, suc, ◌+◌, ◌*◌, ◌/◌, ◌==◌, ◌&&◌, ◌||◌, Bool, List, length, drop, nat_lt, not, slice_index, if◌then◌else◌}
+use Rattle.net_headers.specs.Bytes.{number_at}
+use Rattle.net_headers.specs.Transport.{ports_of}
+use Rattle.net_headers.specs.declared.fields.Net.{Net}
+use Rattle.net_headers.specs.declared.fields.Net.TheVariants as net
+use Rattle.net_headers.specs.declared.fields.Ports.{Ports}
+use Rattle.net_headers.specs.declared.fields.Ports.TheVariants as ports
+
+-- The extension headers (RFC 8200 §4): hop-by-hop options 0, routing 43, fragment 44, authentication 51 (RFC 4302),
+-- destination options 60 and mobility 135 (RFC 6275 §6.1).
+unfoldable pub is_extension : ℕ → Bool
+is_extension kind = kind == 0 || kind == 43 || kind == 44 || kind == 51 || kind == 60 || kind == 135
+
+-- Byte 1 of an extension header counts units of 8 bytes behind the first 8 (RFC 8200 §4.3), that of an
+-- authentication header words of 4 bytes less 2 (RFC 4302 §2.2). A fragment header has 8 bytes (RFC 8200 §4.5).
+unfoldable pub extension_length : ℕ → List ℕ → ℕ
+extension_length kind header =
+    if kind == 44 then 8
+    else if kind == 51 then (slice_index header 1 + 2) * 4
+    else (slice_index header 1 + 1) * 8
+
+-- a fragment header of a fragment behind the first: the high 13 bits of bytes 2 and 3 are its offset
+unfoldable pub is_later_fragment : ℕ → List ℕ → Bool
+is_later_fragment kind header = kind == 44 && not (number_at header 2 2 / 8 == 0)
+
+-- The ports behind at most so many extension headers. The kind says what the bytes begin with, and byte 0 of an
+-- extension header says what stands behind it.
+unfoldable pub ports_behind : ℕ → ℕ → List ℕ → Ports
+ports_behind zero kind bytes = ports_of kind bytes
+ports_behind (suc more) kind bytes =
+    if not (is_extension kind) then ports_of kind bytes
+    else if nat_lt (length bytes) (extension_length kind bytes) then ports.Cut
+    else if is_later_fragment kind bytes then ports.Absent
+    else ports_behind more (slice_index bytes 0) (drop (extension_length kind bytes) bytes)
+
+-- The IPv6 header (RFC 8200 §3) has 40 bytes, the source address in bytes 8 to 23, the destination address in 24 to 39.
+unfoldable pub ipv6_net : List ℕ → Net
+ipv6_net packet = if nat_lt (length packet) 40 then net.Cut else net.V6 (number_at packet 8 16) (number_at packet 24 16)
+
+-- Byte 6 says what stands behind the header. At most six extension headers are passed.
+unfoldable pub ipv6_ports : List ℕ → Ports
+ipv6_ports packet =
+    if nat_lt (length packet) 40 then ports.Absent
+    else ports_behind 6 (slice_index packet 6) (drop 40 packet)

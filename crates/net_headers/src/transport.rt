@@ -1,0 +1,35 @@
+//! The ports of TCP (RFC 9293) and UDP (RFC 768).
+
+ghost use Rattle.std.specs.Prelude.{◌≡◌};
+ghost use Rattle.net_headers.specs.Transport.{ports_of};
+
+use crate::bytes::u16_at;
+use crate::fields::Ports;
+
+const TCP: u8 = 6;
+
+const UDP: u8 = 17;
+
+const TCP_HEADER_LEN: usize = 20;
+
+const UDP_HEADER_LEN: usize = 8;
+
+/// The ports of what an IP packet of this protocol carries.
+#[tactic(auto, unfolding(crate::specs::Transport::ports_of))]
+pub fn ports(protocol: u8, carried: &[u8]) -> Ports
+    ensures { result ≡ ports_of protocol carried.now }
+{
+    match protocol {
+        TCP if carried.len() < TCP_HEADER_LEN => Ports::Cut,
+        TCP => Ports::Tcp {
+            source: u16_at(carried, 0),
+            target: u16_at(carried, 2),
+        },
+        UDP if carried.len() < UDP_HEADER_LEN => Ports::Cut,
+        UDP => Ports::Udp {
+            source: u16_at(carried, 0),
+            target: u16_at(carried, 2),
+        },
+        _ => Ports::Absent,
+    }
+}
