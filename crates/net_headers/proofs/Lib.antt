@@ -1,1 +1,4 @@
 pub mod Walk
+pub mod Longer
+pub mod Chain
+pub mod Tagged

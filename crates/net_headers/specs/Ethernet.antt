@@ -1,8 +1,8 @@
-use Rattle.std.specs.Prelude.{ℕ, ◌+◌, ◌*◌, ◌==◌, ◌&&◌, ◌||◌, Bool, List, length, drop, nat_le, nat_lt, if◌then◌else◌}
+use Rattle.std.specs.Prelude.{◌≡◌, ℕ, ◌+◌, ◌*◌, ◌==◌, ◌&&◌, ◌||◌, Bool, IsTrue, List, length, drop, nat_le, nat_lt, if◌then◌else◌}
 use Rattle.net_headers.specs.Bytes.{number_at}
 
 -- the types of a VLAN tag (IEEE 802.1Q §9.5): 0x8100 is a customer's, 0x88A8 a service provider's
-abbrev pub is_tag : ℕ → Bool
+unfoldable pub is_tag : ℕ → Bool
 is_tag ether_type = ether_type == 0x8100 || ether_type == 0x88A8
 
 -- where the type stands behind so many tags: a frame's first is behind the two addresses (IEEE 802.3 §3.2), and a tag
@@ -11,7 +11,7 @@ abbrev pub type_place : ℕ → ℕ
 type_place tags = 12 + 4 * tags
 
 -- behind so many tags stands another one that is whole, with the type behind it
-abbrev pub has_tag : List ℕ → ℕ → Bool
+unfoldable pub has_tag : List ℕ → ℕ → Bool
 has_tag frame tags = is_tag (number_at frame (type_place tags) 2) && nat_le (type_place (tags + 1) + 2) (length frame)
 
 -- the tags that are passed: two at most
@@ -31,3 +31,8 @@ has_cut_tag frame = is_tag (ether_type_of frame) && nat_lt (tag_count frame) 2
 -- what stands behind the type
 unfoldable pub packet_of : List ℕ → List ℕ
 packet_of frame = drop (type_place (tag_count frame) + 2) frame
+
+-- one whole tag: its type and two bytes of control information
+pub record IsTag (tag : List ℕ) : Type 0 where
+  pub size : length tag ≡ 4
+  pub tagged : IsTrue (is_tag (number_at tag 0 2))

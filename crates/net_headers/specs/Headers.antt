@@ -1,4 +1,4 @@
-use Rattle.std.specs.Prelude.{ℕ, ◌==◌, List, if◌then◌else◌}
+use Rattle.std.specs.Prelude.{ℕ, ◌==◌, ◌≢◌, List, if◌then◌else◌}
 use Rattle.net_headers.specs.Bytes.{number_at}
 use Rattle.net_headers.specs.Ethernet.{ether_type_of, has_cut_tag, packet_of}
 use Rattle.net_headers.specs.Ipv4.{ipv4_net, ipv4_ports}
@@ -25,7 +25,7 @@ frame_ports frame =
 
 -- The header fields of a frame of at least 14 bytes. It begins with the destination address, of 6 bytes, and the source
 -- address (IEEE 802.3 §3.2).
-abbrev pub headers_of : List ℕ → Headers
+unfoldable pub headers_of : List ℕ → Headers
 headers_of frame = record {
   source = number_at frame 6 6;
   target = number_at frame 0 6;
@@ -33,3 +33,8 @@ headers_of frame = record {
   net = net_of frame;
   ports = frame_ports frame;
 }
+
+-- no header that was looked for ends too early
+pub record IsComplete (headers : Headers) : Type 0 where
+  pub net : headers.net ≢ net.Cut
+  pub ports : headers.ports ≢ ports.Cut

@@ -1,4 +1,4 @@
-use Rattle.std.specs.Prelude.{ℕ, zero, suc, ◌+◌, ◌*◌, ◌/◌, ◌==◌, ◌&&◌, ◌||◌, Bool, List, length, drop, nat_lt, not, slice_index, if◌then◌else◌}
+use Rattle.std.specs.Prelude.{◌≡◌, ℕ, zero, suc, ◌+◌, ◌*◌, ◌/◌, ◌==◌, ◌&&◌, ◌||◌, Bool, IsTrue, IsFalse, List, [], ◌∷◌, length, drop, nat_lt, not, slice_index, if◌then◌else◌}
 use Rattle.net_headers.specs.Bytes.{number_at}
 use Rattle.net_headers.specs.Transport.{ports_of}
 use Rattle.net_headers.specs.declared.fields.Net.{Net}
@@ -9,29 +9,29 @@ use Rattle.net_headers.specs.declared.fields.Ports.TheVariants as ports
 -- The extension headers (RFC 8200 §4): hop-by-hop options 0, routing 43, fragment 44, authentication 51 (RFC 4302),
 -- destination options 60 and mobility 135 (RFC 6275 §6.1).
 unfoldable pub is_extension : ℕ → Bool
-is_extension kind = kind == 0 || kind == 43 || kind == 44 || kind == 51 || kind == 60 || kind == 135
+is_extension next_header = next_header == 0 || next_header == 43 || next_header == 44 || next_header == 51 || next_header == 60 || next_header == 135
 
 -- Byte 1 of an extension header counts units of 8 bytes behind the first 8 (RFC 8200 §4.3), that of an
 -- authentication header words of 4 bytes less 2 (RFC 4302 §2.2). A fragment header has 8 bytes (RFC 8200 §4.5).
 unfoldable pub extension_length : ℕ → List ℕ → ℕ
-extension_length kind header =
-    if kind == 44 then 8
-    else if kind == 51 then (slice_index header 1 + 2) * 4
+extension_length next_header header =
+    if next_header == 44 then 8
+    else if next_header == 51 then (slice_index header 1 + 2) * 4
     else (slice_index header 1 + 1) * 8
 
 -- a fragment header of a fragment behind the first: the high 13 bits of bytes 2 and 3 are its offset
 unfoldable pub is_later_fragment : ℕ → List ℕ → Bool
-is_later_fragment kind header = kind == 44 && not (number_at header 2 2 / 8 == 0)
+is_later_fragment next_header header = next_header == 44 && not (number_at header 2 2 / 8 == 0)
 
--- The ports behind at most so many extension headers. The kind says what the bytes begin with, and byte 0 of an
+-- The ports behind at most so many extension headers. The next_header says what the bytes begin with, and byte 0 of an
 -- extension header says what stands behind it.
 unfoldable pub ports_behind : ℕ → ℕ → List ℕ → Ports
-ports_behind zero kind bytes = ports_of kind bytes
-ports_behind (suc more) kind bytes =
-    if not (is_extension kind) then ports_of kind bytes
-    else if nat_lt (length bytes) (extension_length kind bytes) then ports.Cut
-    else if is_later_fragment kind bytes then ports.Absent
-    else ports_behind more (slice_index bytes 0) (drop (extension_length kind bytes) bytes)
+ports_behind zero next_header bytes = ports_of next_header bytes
+ports_behind (suc more) next_header bytes =
+    if not (is_extension next_header) then ports_of next_header bytes
+    else if nat_lt (length bytes) (extension_length next_header bytes) then ports.Cut
+    else if is_later_fragment next_header bytes then ports.Absent
+    else ports_behind more (slice_index bytes 0) (drop (extension_length next_header bytes) bytes)
 
 -- The IPv6 header (RFC 8200 §3) has 40 bytes, the source address in bytes 8 to 23, the destination address in 24 to 39.
 unfoldable pub ipv6_net : List ℕ → Net
@@ -42,3 +42,14 @@ unfoldable pub ipv6_ports : List ℕ → Ports
 ipv6_ports packet =
     if nat_lt (length packet) 40 then ports.Absent
     else ports_behind 6 (slice_index packet 6) (drop 40 packet)
+
+-- a whole extension header, of no later fragment
+pub record IsExtension (next_header : ℕ) (header : List ℕ) : Type 0 where
+  pub known : IsTrue (is_extension next_header)
+  pub whole : length header ≡ extension_length next_header header
+  pub first : IsFalse (is_later_fragment next_header header)
+
+-- Extension headers one after another: the first is what the first number announces, and the last announces the second.
+abbrev pub IsChain : ℕ → List (List ℕ) → ℕ → Type 0
+IsChain next_header [] protocol = next_header ≡ protocol
+IsChain next_header (header ∷ headers) protocol = IsExtension next_header header × IsChain (slice_index header 0) headers protocol

@@ -13,7 +13,7 @@ udp datagram = if nat_lt (length datagram) 8 then Cut else Udp (number_at datagr
 
 -- The ports of what an IP packet carries, by its protocol number: 6 is TCP and 17 is UDP.
 unfoldable pub ports_of : ℕ → List ℕ → Ports
-ports_of protocol carried =
-    if protocol == 6 then tcp carried
-    else if protocol == 17 then udp carried
+ports_of protocol payload =
+    if protocol == 6 then tcp payload
+    else if protocol == 17 then udp payload
     else Absent

@@ -8,15 +8,19 @@ use crate::bytes::u16_at;
 /// The length of two addresses and a type.
 pub const HEADER_LEN: usize = 14;
 
+pub const TARGET: usize = 0;
+
+pub const SOURCE: usize = 6;
+
 const TYPE_LEN: usize = 2;
 
 const TAG_LEN: usize = 4;
 
+const MOST_TAGS: usize = 2;
+
 const CUSTOMER_TAG: u16 = 0x8100;
 
 const SERVICE_TAG: u16 = 0x88A8;
-
-const MOST_TAGS: usize = 2;
 
 /// What a frame carries behind its addresses and tags.
 #[derive(Clone, Copy, Debug, Drop)]
@@ -29,6 +33,7 @@ pub struct Payload<'a> {
     pub packet: &'a [u8],
 }
 
+/// What stands behind the addresses and the tags that are passed.
 #[tactic(auto, unfolding(crate::specs::Ethernet::ether_type_of, crate::specs::Ethernet::has_cut_tag, crate::specs::Ethernet::packet_of))]
 pub fn read(frame: &[u8]) -> Payload<'_>
     requires { 14 ≤ length frame.now }
@@ -47,7 +52,7 @@ pub fn read(frame: &[u8]) -> Payload<'_>
 }
 
 /// How many tags are passed.
-#[tactic(auto, unfolding(crate::specs::Ethernet::tag_count))]
+#[tactic(auto, unfolding(crate::specs::Ethernet::tag_count, crate::specs::Ethernet::has_tag))]
 fn tag_count(frame: &[u8]) -> usize
     requires { 14 ≤ length frame.now }
     ensures count { result ≡ tag_count frame.now }
@@ -62,6 +67,7 @@ fn tag_count(frame: &[u8]) -> usize
 }
 
 /// Whether another whole tag stands behind so many.
+#[tactic(auto, unfolding(crate::specs::Ethernet::has_tag))]
 fn has_tag(frame: &[u8], tags: usize) -> bool
     requires count { tags ≤ 2 }
     requires within { type_place tags + 2 ≤ length frame.now }
@@ -79,6 +85,7 @@ fn type_place(tags: usize) -> usize
     HEADER_LEN - TYPE_LEN + TAG_LEN * tags
 }
 
+#[tactic(auto, unfolding(crate::specs::Ethernet::is_tag))]
 fn is_tag(ether_type: u16) -> bool
     ensures { result ≡ is_tag ether_type }
 {

@@ -12,6 +12,14 @@ const LEAST_HEADER_LEN: usize = 20;
 
 const WORD_LEN: usize = 4;
 
+const FRAGMENT: usize = 6;
+
+const PROTOCOL: usize = 9;
+
+const SOURCE: usize = 12;
+
+const TARGET: usize = 16;
+
 /// The addresses and the ports of a packet.
 #[tactic(auto, unfolding(crate::specs::Ipv4::ipv4_net, crate::specs::Ipv4::ipv4_ports))]
 pub fn read(packet: &[u8]) -> (Net, Ports)
@@ -22,11 +30,11 @@ pub fn read(packet: &[u8]) -> (Net, Ports)
         return (Net::Cut, Ports::Absent);
     };
     let net = Net::V4 {
-        source: u32_at(packet, 12),
-        target: u32_at(packet, 16),
+        source: u32_at(packet, SOURCE),
+        target: u32_at(packet, TARGET),
     };
     let ports = if fragment_offset(packet) == 0 {
-        transport::ports(packet[9], &packet[header_len..])
+        transport::ports(packet[PROTOCOL], &packet[header_len..])
     } else {
         Ports::Absent
     };
@@ -52,5 +60,5 @@ fn fragment_offset(packet: &[u8]) -> u16
     requires { 20 ≤ length packet.now }
     ensures { result ≡ fragment_offset packet.now }
 {
-    u16_at(packet, 6) & 0x1FFF
+    u16_at(packet, FRAGMENT) & 0x1FFF
 }

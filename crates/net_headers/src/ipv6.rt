@@ -9,7 +9,11 @@ use crate::transport;
 
 const HEADER_LEN: usize = 40;
 
-const MOST_EXTENSIONS: usize = 6;
+const NEXT_HEADER: usize = 6;
+
+const SOURCE: usize = 8;
+
+const TARGET: usize = 24;
 
 const HOP_BY_HOP: u8 = 0;
 
@@ -23,6 +27,8 @@ const DESTINATION: u8 = 60;
 
 const MOBILITY: u8 = 135;
 
+const MOST_EXTENSIONS: usize = 6;
+
 /// The addresses and the ports of a packet.
 #[tactic(auto, unfolding(crate::specs::Ipv6::ipv6_net, crate::specs::Ipv6::ipv6_ports))]
 pub fn read(packet: &[u8]) -> (Net, Ports)
@@ -33,45 +39,48 @@ pub fn read(packet: &[u8]) -> (Net, Ports)
         return (Net::Cut, Ports::Absent);
     }
     let net = Net::V6 {
-        source: u128_at(packet, 8),
-        target: u128_at(packet, 24),
+        source: u128_at(packet, SOURCE),
+        target: u128_at(packet, TARGET),
     };
-    (net, ports_behind(packet[6], &packet[HEADER_LEN..]))
+    (
+        net,
+        ports_behind(packet[NEXT_HEADER], &packet[HEADER_LEN..]),
+    )
 }
 
-/// The ports behind the extension headers. The kind says what the payload begins with.
+/// The ports behind the extension headers, the first of which `next_header` announces.
 #[tactic(auto, using(crate::proofs::Walk::walk))]
 fn ports_behind(next_header: u8, payload: &[u8]) -> Ports
     ensures { result ≡ ports_behind 6 next_header payload.now }
 {
-    let mut kind = next_header;
+    let mut next_header = next_header;
     let mut rest = payload;
     for _ in 0..MOST_EXTENSIONS {
-        let Some(length) = extension_len(kind, rest) else {
+        let Some(length) = extension_len(next_header, rest) else {
             break;
         };
         if rest.len() < length {
             return Ports::Cut;
         }
-        if is_later_fragment(kind, rest) {
+        if is_later_fragment(next_header, rest) {
             return Ports::Absent;
         }
-        kind = rest[0];
+        next_header = rest[0];
         rest = &rest[length..];
     }
-    transport::ports(kind, rest)
+    transport::ports(next_header, rest)
 }
 
-/// How many bytes an extension header of this kind says that it takes; nothing where the kind is none of them.
+/// How many bytes the extension header says that it takes, or `None` where what is announced is none.
 #[tactic(auto, unfolding(crate::specs::Ipv6::is_extension, crate::specs::Ipv6::extension_length))]
-fn extension_len(kind: u8, header: &[u8]) -> Option<usize>
-    ensures some { IsSome result ↔ IsTrue (is_extension kind) }
-    ensures length { IfSome result (λ length. length ≡ extension_length kind header.now) }
+fn extension_len(next_header: u8, header: &[u8]) -> Option<usize>
+    ensures some { IsSome result ↔ IsTrue (is_extension next_header) }
+    ensures length { IfSome result (λ length. length ≡ extension_length next_header header.now) }
     ensures least { IfSome result (λ length. 8 ≤ length) }
 {
-    // Where the header ends before its length it isn't whole, whatever that length is.
+    // A header that ends before its length isn't whole, whatever that length is.
     let length = usize::from(header.get(1).copied().unwrap_or(0));
-    match kind {
+    match next_header {
         HOP_BY_HOP | ROUTING | DESTINATION | MOBILITY => Some((length + 1) * 8),
         AUTHENTICATION => Some((length + 2) * 4),
         FRAGMENT => Some(8),
@@ -79,11 +88,11 @@ fn extension_len(kind: u8, header: &[u8]) -> Option<usize>
     }
 }
 
-/// Whether the header is one of a fragment behind the first.
+/// Whether the header is that of a fragment behind the first.
 #[tactic(auto, unfolding(crate::specs::Ipv6::is_later_fragment))]
-fn is_later_fragment(kind: u8, header: &[u8]) -> bool
+fn is_later_fragment(next_header: u8, header: &[u8]) -> bool
     requires { 8 ≤ length header.now }
-    ensures { result ≡ is_later_fragment kind header.now }
+    ensures { result ≡ is_later_fragment next_header header.now }
 {
-    kind == FRAGMENT && u16_at(header, 2) / 8 != 0
+    next_header == FRAGMENT && u16_at(header, 2) / 8 != 0
 }

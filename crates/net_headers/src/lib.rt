@@ -10,8 +10,12 @@ mod ethernet;
 mod fields;
 mod ipv4;
 mod ipv6;
+pub mod laws;
+#[cfg(test)]
+mod tests;
 mod transport;
 
+use bytes::u48_at;
 pub use fields::{Headers, Net, Ports, Short};
 
 /// The Ethernet type of IPv4 (RFC 894).
@@ -20,7 +24,7 @@ const IPV4: u16 = 0x0800;
 const IPV6: u16 = 0x86DD;
 
 /// The header fields of a frame.
-#[tactic(auto, unfolding(crate::specs::Headers::net_of, crate::specs::Headers::frame_ports))]
+#[tactic(auto, unfolding(crate::specs::Headers::headers_of, crate::specs::Headers::net_of, crate::specs::Headers::frame_ports))]
 pub fn headers(frame: &[u8]) -> Result<Headers, Short>
     ensures short { IsErr result ↔ (length frame.now < 14) }
     ensures fields { IfOk result (λ fields. fields ≡ headers_of frame.now) }
@@ -36,8 +40,8 @@ pub fn headers(frame: &[u8]) -> Result<Headers, Short>
         _ => (Net::Absent, Ports::Absent),
     };
     Ok(Headers {
-        source: bytes::u48_at(frame, 6),
-        target: bytes::u48_at(frame, 0),
+        source: u48_at(frame, ethernet::SOURCE),
+        target: u48_at(frame, ethernet::TARGET),
         ether_type: payload.ether_type,
         net,
         ports,

@@ -14,21 +14,25 @@ const TCP_HEADER_LEN: usize = 20;
 
 const UDP_HEADER_LEN: usize = 8;
 
+const SOURCE: usize = 0;
+
+const TARGET: usize = 2;
+
 /// The ports of what an IP packet of this protocol carries.
 #[tactic(auto, unfolding(crate::specs::Transport::ports_of))]
-pub fn ports(protocol: u8, carried: &[u8]) -> Ports
-    ensures { result ≡ ports_of protocol carried.now }
+pub fn ports(protocol: u8, payload: &[u8]) -> Ports
+    ensures { result ≡ ports_of protocol payload.now }
 {
     match protocol {
-        TCP if carried.len() < TCP_HEADER_LEN => Ports::Cut,
+        TCP if payload.len() < TCP_HEADER_LEN => Ports::Cut,
         TCP => Ports::Tcp {
-            source: u16_at(carried, 0),
-            target: u16_at(carried, 2),
+            source: u16_at(payload, SOURCE),
+            target: u16_at(payload, TARGET),
         },
-        UDP if carried.len() < UDP_HEADER_LEN => Ports::Cut,
+        UDP if payload.len() < UDP_HEADER_LEN => Ports::Cut,
         UDP => Ports::Udp {
-            source: u16_at(carried, 0),
-            target: u16_at(carried, 2),
+            source: u16_at(payload, SOURCE),
+            target: u16_at(payload, TARGET),
         },
         _ => Ports::Absent,
     }
