@@ -1,4 +1,5 @@
+pub mod Numbers
 pub mod Walk
 pub mod Longer
-pub mod Chain
 pub mod Tagged
+pub mod Chain

@@ -1,76 +1,64 @@
 -- What stands behind the headers of a frame changes none of its fields.
-use Rattle.std.proofs.Common.{◌≡◌, ◌≢◌, ℕ, zero, suc, ◌+◌, ◌<◌, ◌≤◌, List, ◌++◌, length, drop, true, false, get_or, arith, refl, ◌∙◌, sym, length-append}
+use Rattle.std.proofs.Common.{◌≡◌, ◌≢◌, ℕ, zero, suc, ◌+◌, ◌<◌, ◌≤◌, List, ◌++◌, length, drop, true, false, get_or, arith, ◌∙◌, sym, length-append}
 use Rattle.std.proofs.lemmas.Grind.{common_steps}
-use Rattle.std.proofs.lemmas.List.{get_or_append_left}
-use Rattle.net_headers.specs.Bytes.{number_at}
-use Rattle.net_headers.specs.Transport.{ports_of}
+use Rattle.net_headers.specs.Transport.{transport_ports}
 use Rattle.net_headers.specs.Ipv4.{ipv4_net, ipv4_ports}
-use Rattle.net_headers.specs.Ipv6.{ipv6_net, ipv6_ports, ports_behind, extension_length, is_later_fragment}
+use Rattle.net_headers.specs.Ipv6.{ipv6_net, ipv6_ports, ports_behind}
 use Rattle.net_headers.specs.Ethernet.{is_tag, type_place, has_tag, tag_count, ether_type_of, has_cut_tag, packet_of}
-use Rattle.net_headers.specs.Headers.{net_of, frame_ports, headers_of, IsComplete}
+use Rattle.net_headers.specs.Headers.{net_of, ports_of, headers_of, IsComplete}
 use Rattle.net_headers.specs.declared.fields.Net.TheVariants as net
 use Rattle.net_headers.specs.declared.fields.Ports.TheVariants as ports
-use Rattle.net_headers.proofs.Walk.{ipv6_ports-whole}
+use Rattle.net_headers.proofs.Numbers.{number_at-append}
+use Rattle.net_headers.proofs.Walk.{ipv6_ports-whole, least_extension, extension_length-append, is_later_fragment-append}
 
-pub number_at-append : (bytes more : List ℕ) (place size : ℕ) → place + size ≤ length bytes
-    → number_at (bytes ++ more) place size ≡ number_at bytes place size
-unfolding number_at
-number_at-append bytes more place zero within = refl
-number_at-append bytes more place (suc size) within =
-    rw (number_at-append bytes more place size (omega arith), get_or_append_left bytes more 0 (place + size) (omega arith))
+transport_ports-append : (protocol : ℕ) (payload more : List ℕ) → transport_ports protocol payload ≢ ports.Cut
+    → transport_ports protocol (payload ++ more) ≡ transport_ports protocol payload
+unfolding transport_ports
+transport_ports-append protocol payload more complete = grind (arith, common_steps, number_at-append)
 
-pub ports_of-append : (protocol : ℕ) (payload more : List ℕ) → ports_of protocol payload ≢ ports.Cut
-    → ports_of protocol (payload ++ more) ≡ ports_of protocol payload
-unfolding ports_of
-ports_of-append protocol payload more complete = grind (arith, common_steps, number_at-append)
-
-pub ipv4_net-append : (packet more : List ℕ) → ipv4_net packet ≢ net.Cut → ipv4_net (packet ++ more) ≡ ipv4_net packet
+ipv4_net-append : (packet more : List ℕ) → ipv4_net packet ≢ net.Cut → ipv4_net (packet ++ more) ≡ ipv4_net packet
 unfolding ipv4_net
 ipv4_net-append packet more complete = grind (arith, common_steps, number_at-append)
 
-pub ipv4_ports-append : (packet more : List ℕ) → ipv4_net packet ≢ net.Cut → ipv4_ports packet ≢ ports.Cut
+ipv4_ports-append : (packet more : List ℕ) → ipv4_net packet ≢ net.Cut → ipv4_ports packet ≢ ports.Cut
     → ipv4_ports (packet ++ more) ≡ ipv4_ports packet
 unfolding ipv4_net ipv4_ports
-ipv4_ports-append packet more whole complete = grind (arith, common_steps, number_at-append, ports_of-append)
+ipv4_ports-append packet more whole complete =
+    grind (arith, common_steps, number_at-append, transport_ports-append)
 
-pub least_extension : (next_header : ℕ) (header : List ℕ) → 8 ≤ extension_length next_header header
-unfolding extension_length
-least_extension next_header header = grind arith
-
-pub extension_length-append : (next_header : ℕ) (header more : List ℕ) → 2 ≤ length header
-    → extension_length next_header (header ++ more) ≡ extension_length next_header header
-unfolding extension_length
-extension_length-append next_header header more long = grind (arith, common_steps)
-
-pub is_later_fragment-append : (next_header : ℕ) (header more : List ℕ) → 4 ≤ length header
-    → is_later_fragment next_header (header ++ more) ≡ is_later_fragment next_header header
-unfolding is_later_fragment
-is_later_fragment-append next_header header more long = grind (arith, number_at-append)
-
-pub ports_behind-append : (left next_header : ℕ) (bytes more : List ℕ) → ports_behind left next_header bytes ≢ ports.Cut
+ports_behind-append : (left next_header : ℕ) (bytes more : List ℕ) → ports_behind left next_header bytes ≢ ports.Cut
     → ports_behind left next_header (bytes ++ more) ≡ ports_behind left next_header bytes
 unfolding ports_behind
-ports_behind-append zero next_header bytes more complete = ports_of-append next_header bytes more complete
+ports_behind-append zero next_header bytes more complete = transport_ports-append next_header bytes more complete
 ports_behind-append (suc left) next_header bytes more complete =
-    grind (arith, common_steps, ports_of-append, least_extension, extension_length-append, is_later_fragment-append, ports_behind-append left)
+    grind (
+      arith,
+      common_steps,
+      transport_ports-append,
+      least_extension,
+      extension_length-append,
+      is_later_fragment-append,
+      ports_behind-append left,
+    )
 
-pub ipv6_net-append : (packet more : List ℕ) → ipv6_net packet ≢ net.Cut → ipv6_net (packet ++ more) ≡ ipv6_net packet
+ipv6_net-append : (packet more : List ℕ) → ipv6_net packet ≢ net.Cut → ipv6_net (packet ++ more) ≡ ipv6_net packet
 unfolding ipv6_net
 ipv6_net-append packet more complete = grind (arith, common_steps, number_at-append)
 
 behind_header : (size : ℕ) (packet more : List ℕ) → 6 < size → size ≤ length packet
     → ports_behind 6 (get_or packet 6 0) (drop size packet) ≢ ports.Cut
-    → ports_behind 6 (get_or (packet ++ more) 6 0) (drop size (packet ++ more)) ≡ ports_behind 6 (get_or packet 6 0) (drop size packet)
+    → ports_behind 6 (get_or (packet ++ more) 6 0) (drop size (packet ++ more))
+    ≡ ports_behind 6 (get_or packet 6 0) (drop size packet)
 behind_header size packet more some within complete = grind (arith, common_steps, ports_behind-append)
 
-whole_header : (packet : List ℕ) → ipv6_net packet ≢ net.Cut → 40 ≤ length packet
+long_header : (packet : List ℕ) → ipv6_net packet ≢ net.Cut → 40 ≤ length packet
 unfolding ipv6_net
-whole_header packet whole = grind arith
+long_header packet whole = grind arith
 
-pub ipv6_ports-append : (packet more : List ℕ) → ipv6_net packet ≢ net.Cut → ipv6_ports packet ≢ ports.Cut
+ipv6_ports-append : (packet more : List ℕ) → ipv6_net packet ≢ net.Cut → ipv6_ports packet ≢ ports.Cut
     → ipv6_ports (packet ++ more) ≡ ipv6_ports packet
 ipv6_ports-append packet more whole complete =
-    let long : 40 ≤ length packet = whole_header packet whole in
+    let long : 40 ≤ length packet = long_header packet whole in
     let longer : 40 ≤ length (packet ++ more) = omega (arith, length-append packet more) in
     let same = ipv6_ports-whole packet long in
     let kept : ports_behind 6 (get_or packet 6 0) (drop 40 packet) ≢ ports.Cut = λ cut. complete (same ∙ cut) in
@@ -85,36 +73,44 @@ whole_tags : (frame : List ℕ) → net_of frame ≢ net.Cut → has_cut_tag fra
 unfolding net_of has_cut_tag
 whole_tags frame whole = grind (arith, no_tag)
 
-pub type_within : (frame : List ℕ) → 14 ≤ length frame → type_place (tag_count frame) + 2 ≤ length frame
+type_within : (frame : List ℕ) → 14 ≤ length frame → type_place (tag_count frame) + 2 ≤ length frame
 unfolding tag_count has_tag
 type_within frame long = grind arith
 
-tag_count-append : (frame more : List ℕ) → 14 ≤ length frame → has_cut_tag frame ≡ false → tag_count (frame ++ more) ≡ tag_count frame
+tag_count-append : (frame more : List ℕ) → 14 ≤ length frame → has_cut_tag frame ≡ false
+    → tag_count (frame ++ more) ≡ tag_count frame
 unfolding tag_count has_tag has_cut_tag ether_type_of
 tag_count-append frame more long whole = grind (arith, common_steps, number_at-append)
 
-ether_type_of-append : (frame more : List ℕ) → 14 ≤ length frame → has_cut_tag frame ≡ false → ether_type_of (frame ++ more) ≡ ether_type_of frame
+ether_type_of-append : (frame more : List ℕ) → 14 ≤ length frame → has_cut_tag frame ≡ false
+    → ether_type_of (frame ++ more) ≡ ether_type_of frame
 unfolding ether_type_of
 ether_type_of-append frame more long whole = grind (arith, tag_count-append, type_within, number_at-append)
 
-packet_of-append : (frame more : List ℕ) → 14 ≤ length frame → has_cut_tag frame ≡ false → packet_of (frame ++ more) ≡ packet_of frame ++ more
+packet_of-append : (frame more : List ℕ) → 14 ≤ length frame → has_cut_tag frame ≡ false
+    → packet_of (frame ++ more) ≡ packet_of frame ++ more
 unfolding packet_of
 packet_of-append frame more long whole = grind (arith, common_steps, tag_count-append, type_within)
 
-has_cut_tag-append : (frame more : List ℕ) → 14 ≤ length frame → has_cut_tag frame ≡ false → has_cut_tag (frame ++ more) ≡ false
+has_cut_tag-append : (frame more : List ℕ) → 14 ≤ length frame → has_cut_tag frame ≡ false
+    → has_cut_tag (frame ++ more) ≡ false
 unfolding has_cut_tag
 has_cut_tag-append frame more long whole = grind (arith, tag_count-append, ether_type_of-append)
 
-net_of-append : (frame more : List ℕ) → 14 ≤ length frame → net_of frame ≢ net.Cut → net_of (frame ++ more) ≡ net_of frame
+ruleset tags = (whole_tags, ether_type_of-append, packet_of-append, has_cut_tag-append)
+
+net_of-append : (frame more : List ℕ) → 14 ≤ length frame → net_of frame ≢ net.Cut
+    → net_of (frame ++ more) ≡ net_of frame
 unfolding net_of
-net_of-append frame more long whole = grind (arith, whole_tags, ether_type_of-append, packet_of-append, has_cut_tag-append, ipv4_net-append, ipv6_net-append)
+net_of-append frame more long whole = grind (arith, tags, ipv4_net-append, ipv6_net-append)
 
-frame_ports-append : (frame more : List ℕ) → 14 ≤ length frame → net_of frame ≢ net.Cut → frame_ports frame ≢ ports.Cut
-    → frame_ports (frame ++ more) ≡ frame_ports frame
-unfolding net_of frame_ports
-frame_ports-append frame more long whole complete = grind (arith, whole_tags, ether_type_of-append, packet_of-append, ipv4_ports-append, ipv6_ports-append)
+ports_of-append : (frame more : List ℕ) → 14 ≤ length frame → net_of frame ≢ net.Cut → ports_of frame ≢ ports.Cut
+    → ports_of (frame ++ more) ≡ ports_of frame
+unfolding net_of ports_of
+ports_of-append frame more long whole complete = grind (arith, tags, ipv4_ports-append, ipv6_ports-append)
 
-pub headers_of-append : (frame more : List ℕ) → 14 ≤ length frame → IsComplete (headers_of frame) → headers_of (frame ++ more) ≡ headers_of frame
+pub headers_of-append : (frame more : List ℕ) → 14 ≤ length frame → IsComplete (headers_of frame)
+    → headers_of (frame ++ more) ≡ headers_of frame
 unfolding headers_of
 headers_of-append frame more long complete =
     rw (
@@ -122,5 +118,5 @@ headers_of-append frame more long complete =
       number_at-append frame more 0 6 (omega arith),
       ether_type_of-append frame more long (whole_tags frame complete.net),
       net_of-append frame more long complete.net,
-      frame_ports-append frame more long complete.net complete.ports,
+      ports_of-append frame more long complete.net complete.ports,
     )

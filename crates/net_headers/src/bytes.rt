@@ -37,7 +37,7 @@ pub fn u48_at(bytes: &[u8], place: usize) -> u64
 
 /// The 64 bits at a place.
 #[tactic(auto, unfolding(crate::specs::Bytes::number_at))]
-pub fn u64_at(bytes: &[u8], place: usize) -> u64
+fn u64_at(bytes: &[u8], place: usize) -> u64
     requires { place + 8 ≤ length bytes.now }
     ensures { result ≡ number_at bytes.now place 8 }
 {

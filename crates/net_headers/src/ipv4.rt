@@ -1,7 +1,7 @@
 //! IPv4 (RFC 791).
 
 ghost use Rattle.std.specs.Prelude.{◌≡◌, ◌≤◌, length, if◌then◌else◌, Option, Some, None};
-ghost use Rattle.net_headers.specs.Ipv4.{is_whole, header_length, fragment_offset, ipv4_net, ipv4_ports};
+ghost use Rattle.net_headers.specs.Ipv4.{has_whole_header, header_length, fragment_offset, ipv4_net, ipv4_ports};
 
 use crate::bytes::{u16_at, u32_at};
 use crate::fields::{Net, Ports};
@@ -43,7 +43,7 @@ pub fn read(packet: &[u8]) -> (Net, Ports)
 
 /// The length of the header with its options, where it is whole.
 fn header_len(packet: &[u8]) -> Option<usize>
-    ensures { result ≡ (if is_whole packet.now then Some (header_length packet.now) else None) }
+    ensures { result ≡ (if has_whole_header packet.now then Some (header_length packet.now) else None) }
 {
     if packet.len() < LEAST_HEADER_LEN {
         return None;

@@ -5,7 +5,7 @@ ghost use Rattle.std.specs.List.{concat};
 ghost use Rattle.net_headers.specs.Ethernet.{tag_count, has_cut_tag, IsTag};
 ghost use Rattle.net_headers.specs.Headers.{headers_of, IsComplete};
 ghost use Rattle.net_headers.specs.Ipv6.{ipv6_ports, is_extension, IsChain};
-ghost use Rattle.net_headers.specs.Transport.{ports_of};
+ghost use Rattle.net_headers.specs.Transport.{transport_ports};
 
 /// What stands behind the headers of a frame changes none of its fields.
 pub fn longer_frame()
@@ -25,5 +25,5 @@ pub fn extended_packet()
     ensures { (header : List ℕ) (extensions : List (List ℕ)) (protocol : ℕ) (payload : List ℕ)
         → length header ≡ 40 → length extensions ≤ 6 → IsChain (slice_index header 6) extensions protocol
         → IsFalse (is_extension protocol)
-        → ipv6_ports (header ++ concat extensions ++ payload) ≡ ports_of protocol payload }
+        → ipv6_ports (header ++ concat extensions ++ payload) ≡ transport_ports protocol payload }
 {}

@@ -23,8 +23,8 @@ const IPV4: u16 = 0x0800;
 /// The Ethernet type of IPv6 (RFC 2464 §3).
 const IPV6: u16 = 0x86DD;
 
-/// The header fields of a frame.
-#[tactic(auto, unfolding(crate::specs::Headers::headers_of, crate::specs::Headers::net_of, crate::specs::Headers::frame_ports))]
+/// The header fields of a frame, the first byte first.
+#[tactic(auto, unfolding(crate::specs::Headers::headers_of, crate::specs::Headers::net_of, crate::specs::Headers::ports_of))]
 pub fn headers(frame: &[u8]) -> Result<Headers, Short>
     ensures short { IsErr result ↔ (length frame.now < 14) }
     ensures fields { IfOk result (λ fields. fields ≡ headers_of frame.now) }

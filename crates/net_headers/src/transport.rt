@@ -1,7 +1,7 @@
 //! The ports of TCP (RFC 9293) and UDP (RFC 768).
 
 ghost use Rattle.std.specs.Prelude.{◌≡◌};
-ghost use Rattle.net_headers.specs.Transport.{ports_of};
+ghost use Rattle.net_headers.specs.Transport.{transport_ports};
 
 use crate::bytes::u16_at;
 use crate::fields::Ports;
@@ -19,9 +19,9 @@ const SOURCE: usize = 0;
 const TARGET: usize = 2;
 
 /// The ports of what an IP packet of this protocol carries.
-#[tactic(auto, unfolding(crate::specs::Transport::ports_of))]
+#[tactic(auto, unfolding(crate::specs::Transport::transport_ports))]
 pub fn ports(protocol: u8, payload: &[u8]) -> Ports
-    ensures { result ≡ ports_of protocol payload.now }
+    ensures { result ≡ transport_ports protocol payload.now }
 {
     match protocol {
         TCP if payload.len() < TCP_HEADER_LEN => Ports::Cut,
