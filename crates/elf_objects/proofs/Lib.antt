@@ -1,0 +1,4 @@
+pub mod Search
+pub mod Contents
+pub mod NameTables
+pub mod SymbolTable

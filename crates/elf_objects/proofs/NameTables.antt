@@ -1,0 +1,22 @@
+-- Names, their zero bytes, and the loops that look for these.
+use Rattle.std.proofs.Common.{◌≡◌, ℕ, ◌+◌, ◌-◌, ◌<◌, ◌≤◌, Bool, true, false, ◌==◌, List, length, get_or, drop, take, nat_lt, sym, ap, subst, ⊎_elim, ◌∙◌, arith}
+use Rattle.std.proofs.lemmas.Bool.{cases_lt, eq-eqb, ne_eqb, lt-ltb, le-ltb}
+use Rattle.std.proofs.lemmas.Grind.{get_or_default_zero}
+use Rattle.std.proofs.lemmas.List.{get_or-drop, length-drop}
+use Rattle.std.proofs.lemmas.List.Folds.{list_any_at, list_any_none}
+use Rattle.elf_objects.specs.Names.{has_name}
+
+-- where the last zero byte is just below the end, it ends the names that begin below the end, and no others
+pub has_name-end : (table : List ℕ) (end place : ℕ) → end ≤ length table → ((k : ℕ) → end ≤ k → k < length table → get_or table k 0 ≡ 0 → ⊥) → (0 < end → get_or table (end - 1) 0 ≡ 0) → has_name table place ≡ nat_lt place end
+unfolding has_name
+has_name-end table end place within none last = ⊎_elim
+    (λ (below : place < end).
+        let zero_byte : get_or (drop place table) (end - 1 - place) 0 ≡ 0 = rw get_or-drop (subst (λ i. get_or table i 0 ≡ 0) (omega arith) (last (omega arith))) in
+        list_any_at (λ b. b == 0) (drop place table) (end - 1 - place) 0 (simp length-drop (omega arith)) (eq-eqb _ _ zero_byte)
+        ∙ sym (lt-ltb place end below))
+    (λ (above : end ≤ place).
+        list_any_none (λ b. b == 0) (drop place table) (λ k d known.
+            let inside : place + k < length table = omega (arith, length-drop place table) in
+            ne_eqb _ _ (λ zero_byte. none (place + k) (omega arith) inside (sym (get_or_default_zero table (place + k) d inside) ∙ sym (get_or-drop place table k d) ∙ zero_byte)))
+        ∙ sym (le-ltb place end above))
+    (cases_lt place end)
