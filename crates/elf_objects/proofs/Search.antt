@@ -1,6 +1,7 @@
 -- The first number that passes a test, as a loop over the numbers finds it.
-use Rattle.std.proofs.Common.{◌≡◌, ℕ, zero, suc, ◌+◌, ◌<◌, ◌≤◌, Bool, true, false, cond, Option, Some, None, fold, add-one, refl, sym, ap, ◌∙◌, arith, ⊎_elim}
+use Rattle.std.proofs.Common.{◌≡◌, ℕ, zero, suc, ◌+◌, ◌<◌, ◌≤◌, Bool, true, false, cond, Option, Some, None, fold, add-one, List, [], ◌∷◌, ◌++◌, map, refl, sym, ap, ◌∙◌, arith, ⊎_elim}
 use Rattle.std.proofs.lemmas.Bool.{cases_lt}
+use Rattle.std.proofs.lemmas.List.FromFn.{map-range_with_len_more}
 use Rattle.std.specs.Option.{option_map}
 use Rattle.std.specs.List.{find, range_with_len}
 
@@ -58,3 +59,8 @@ fold_range f z a (suc n) = fold_range f (f z a) (a + 1) n ∙ ap (f (fold f (f z
 
 pub fold_more : {A : Type 0} (f : A → ℕ → A) (z : A) (n : ℕ) → fold f z (range_with_len 0 (n + 1)) ≡ f (fold f z (range_with_len 0 n)) n
 fold_more f z n = rw add-one (fold_range f z 0 n ∙ ap (f (fold f z (range_with_len 0 n))) (omega arith))
+
+-- a list of what f makes of the numbers below n, after one more
+pub map_more : {X : Type 0} (f : ℕ → X) (n : ℕ) (xs ys : List X) (x : X) → xs ≡ map f (range_with_len 0 n) → ys ≡ xs ++ x ∷ [] → x ≡ f n → ys ≡ map f (range_with_len 0 (n + 1))
+map_more f n xs ys x so_far pushed is =
+    pushed ∙ ap (λ zs. zs ++ x ∷ []) so_far ∙ ap (λ z. map f (range_with_len 0 n) ++ z ∷ []) is ∙ sym (map-range_with_len_more f 0 n n (omega arith))

@@ -5,3 +5,6 @@ pub mod Names
 pub mod Header
 pub mod Symbol
 pub mod Reloc
+pub mod Object
+pub mod RelocTables
+pub mod ObjectRead

@@ -1,8 +1,9 @@
 //! The file's header, and the rules E1 to E12.
 
-ghost use Rattle.std.specs.Prelude.{◌≡◌};
+ghost use Rattle.std.specs.Prelude.{◌≡◌, true, OnOk};
 ghost use Rattle.std.specs.Result.{result_err};
 ghost use Rattle.elf_objects.specs.Breaks.{first_broken};
+ghost use Rattle.elf_objects.specs.Section.{HasHeaders, name_section, is_of_kind};
 ghost use Rattle.elf_objects.specs.Header.{header_rules};
 
 use crate::bad_elf::{BadElf, broken_at, keeps};
@@ -13,7 +14,9 @@ use crate::section::{RESERVED, STRTAB, is_of_kind, name_section, passes_end};
 const MAGIC: u32 = 0x464c_457f;
 
 pub(crate) fn check_header(file: &[u8]) -> Result<(), BadElf>
-    ensures { result_err result ≡ first_broken 1 (header_rules file.now) }
+    ensures rules { result_err result ≡ first_broken 1 (header_rules file.now) }
+    ensures headers { OnOk result (HasHeaders file.now) }
+    ensures names { OnOk result (is_of_kind file.now 3 (name_section file.now) ≡ true) }
 {
     keeps(1, broken_at(0, file.len() < 64))?;
     keeps(2, broken_at(0, u32_at(file, 0) != MAGIC))?;

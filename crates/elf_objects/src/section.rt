@@ -1,9 +1,12 @@
 //! The section headers, and the rules E13 and E15, which each meets by itself.
 
-ghost use Rattle.std.specs.Prelude.{◌≡◌, ◌+◌, ◌<◌, ◌≤◌, true, None, length, nat_lt};
+ghost use Rattle.std.specs.Prelude.{◌≡◌, ◌+◌, ◌<◌, ◌≤◌, true, None, IfOk, length, nat_lt};
 ghost use Rattle.elf_objects.specs.Section.{HasHeaders, section_count, name_section, header_place, section, entry_size, is_of_kind, has_bytes, content_of, is_past_end, section_past_end, is_compressed, compressed_section};
+ghost use Rattle.elf_objects.specs.Object.{sections};
 
 use crate::fields::{u16_at, u32_at, u64_at};
+use lists::OutOfMemory;
+use std::alloc::Global;
 
 // Section types: SHT_NULL, SHT_SYMTAB, SHT_STRTAB, SHT_RELA, SHT_NOBITS and SHT_REL.
 pub(crate) const NULL: u32 = 0;
@@ -165,4 +168,17 @@ pub(crate) fn compressed_section(file: &[u8]) -> Option<u64>
         }
     }
     None
+}
+
+/// All sections, in order.
+pub(crate) fn read_sections(alloc: Global, file: &[u8]) -> Result<Vec<Section>, OutOfMemory>
+    requires { HasHeaders file.now }
+    ensures { IfOk result (λ rows. rows.items ≡ sections file.now) }
+{
+    let count = section_count(file);
+    let mut rows = Vec::with_capacity(alloc, count as usize)?;
+    for number in 0..count {
+        rows.push(section_at(file, number))?;
+    }
+    Ok(rows)
 }

@@ -1,13 +1,16 @@
 //! The symbols, and the rules E16 to E18.
 
-ghost use Rattle.std.specs.Prelude.{◌≡◌, ◌+◌, ◌*◌, ◌/◌, ◌<◌, ◌≤◌, ℕ, None, IfSome, length, nat_lt};
+ghost use Rattle.std.specs.Prelude.{◌≡◌, ◌+◌, ◌*◌, ◌/◌, ◌<◌, ◌≤◌, ℕ, None, IfSome, IfOk, length, nat_lt};
 ghost use Rattle.elf_objects.specs.Section.{HasHeaders, section_count, section_past_end};
 ghost use Rattle.elf_objects.specs.Names.{HasContents, has_name};
 ghost use Rattle.elf_objects.specs.Symbol.{symbol_table, symbol_section, symbol_count, symbol_place, symbol_at, symbol_names, is_bad_symbol_table, bad_symbol_table, is_unnamed_symbol, unnamed_symbol, is_astray, astray_symbol};
+ghost use Rattle.elf_objects.specs.Object.{symbols};
 
 use crate::fields::{u16_at, u32_at, u64_at};
 use crate::names::names_end;
 use crate::section::{RESERVED, STRTAB, SYMTAB, Section, content_at, entry_size, header_place, is_of_kind, section_at, section_count};
+use lists::OutOfMemory;
+use std::alloc::Global;
 
 /// A symbol, without its visibility.
 #[derive(Clone, Copy, Debug, PartialEq, Eq)]
@@ -159,4 +162,18 @@ pub(crate) fn astray_symbol(file: &[u8]) -> Option<u64>
         }
     }
     None
+}
+
+/// All symbols, in order.
+pub(crate) fn read_symbols(alloc: Global, file: &[u8]) -> Result<Vec<Symbol>, OutOfMemory>
+    requires { HasContents file.now }
+    ensures { IfOk result (λ rows. rows.items ≡ symbols file.now) }
+{
+    let table = symbol_section(file);
+    let count = table.size / 24;
+    let mut rows = Vec::with_capacity(alloc, count as usize)?;
+    for index in 0..count {
+        rows.push(symbol_at(file, table, index))?;
+    }
+    Ok(rows)
 }
