@@ -32,8 +32,8 @@ part_of_relocs file start first all count place within is =
     fill_by_all (λ index. reloc_at file (place + 16 * index)) (take count (drop first rows)) count none
     (simp (length-take, length-drop) (omega arith))
     (λ k below. get_or-take count (drop first rows) k none below ∙ get_or-drop first rows k none
-        ∙ get_or-map-range_with_len f 0 all (first + k) (first + k) none (omega arith) (omega arith)
-        ∙ ap (reloc_at file) (omega arith))
+    ∙ get_or-map-range_with_len f 0 all (first + k) (first + k) none (omega arith) (omega arith)
+    ∙ ap (reloc_at file) (omega arith))
 
 length-relocs_at : (file : List ℕ) (place count : ℕ) → length (relocs_at file place count) ≡ count
 unfolding relocs_at

@@ -2,32 +2,39 @@
 use Rattle.std.proofs.Common.{◌≡◌, ℕ, zero, suc, ◌+◌, ◌<◌, ◌≤◌, Bool, true, false, cond, not, List, [], ◌∷◌, ◌++◌, length, get_or, Option, Some, None, refl, sym, ap, subst, ◌∙◌, arith}
 use Rattle.std.proofs.lemmas.Bool.Decides.{nat_tests}
 use Rattle.elf_objects.specs.declared.bad_elf.BadElf.{BadElf}
-use Rattle.elf_objects.specs.Breaks.{broken_at, first_broken}
+use Rattle.elf_objects.specs.Breaks.{Test, first_place, break_or, first_broken}
 use Rattle.elf_objects.specs.declared.section.Section.{Section}
 use Rattle.elf_objects.specs.declared.symbol.Symbol.{Symbol}
 use Rattle.elf_objects.specs.Section.{HasHeaders, section, section_table, section_count, name_section, is_of_kind}
 use Rattle.elf_objects.specs.Names.{HasContents, section_names, is_unnamed}
-use Rattle.elf_objects.specs.Symbol.{symbol, symbol_count, symbol_place, symbol_names, first_symbol, is_unnamed_symbol}
-use Rattle.elf_objects.specs.Header.{header_rules}
-use Rattle.elf_objects.specs.Object.{first_break, table_rules, IsSound}
-use Rattle.elf_objects.proofs.Search.{passes_none}
-use Rattle.elf_objects.proofs.Contents.{header_passes}
+use Rattle.elf_objects.specs.Symbol.{symbol, symbol_count, symbol_place, symbol_names, symbol_tests, is_unnamed_symbol}
+use Rattle.elf_objects.specs.Header.{test_at}
+use Rattle.elf_objects.specs.Object.{rules, first_break, IsSound}
+use Rattle.elf_objects.proofs.Search.{row_passes}
+use Rattle.elf_objects.proofs.Headers.{header_passes}
 use Rattle.elf_objects.proofs.NameTables.{has_name-within}
 
+broken_alike : (rule : ℕ) (place : Option ℕ) (other more : Option BadElf) (bad : BadElf) → (other ≡ Some bad → more ≡ Some bad) → break_or rule place other ≡ Some bad → break_or rule place more ≡ Some bad
+broken_alike rule None other more bad later is = later is
+broken_alike rule (Some place) other more bad later is = is
+
 -- a rule that is broken among the first is the first of all
-pub first_broken-append : (rule : ℕ) (places others : List (Option ℕ)) (bad : BadElf) → first_broken rule places ≡ Some bad → first_broken rule (places ++ others) ≡ Some bad
+pub first_broken-append : (rule : ℕ) (rules others : List (List Test)) (bad : BadElf) → first_broken rule rules ≡ Some bad → first_broken rule (rules ++ others) ≡ Some bad
 first_broken-append rule [] others bad is = absurd (cc)
-first_broken-append rule (None ∷ places) others bad is = first_broken-append (suc rule) places others bad is
-first_broken-append rule (Some place ∷ places) others bad is = is
+first_broken-append rule (tests ∷ rules) others bad is =
+    broken_alike rule (first_place tests) (first_broken (suc rule) rules) (first_broken (suc rule) (rules ++ others)) bad (first_broken-append (suc rule) rules others bad) is
 
 -- where none is broken, none of them is
-none_broken : (rule : ℕ) (places : List (Option ℕ)) → first_broken rule places ≡ None → (k : ℕ) → get_or places k None ≡ None
-none_broken rule [] none k = refl
-none_broken rule (None ∷ places) none zero = refl
-none_broken rule (None ∷ places) none (suc k) = none_broken (suc rule) places none k
-none_broken rule (Some place ∷ places) none k = absurd (cc)
+pub none_here : (rule : ℕ) (place : Option ℕ) (other : Option BadElf) → break_or rule place other ≡ None → (place ≡ None) × (other ≡ None)
+none_here rule None other none = (refl, none)
+none_here rule (Some place) other none = absurd (cc)
 
-holds_at : (place : ℕ) (is_broken : Bool) → broken_at place is_broken ≡ None → is_broken ≡ false
+pub none_broken : (rule : ℕ) (rules : List (List Test)) → first_broken rule rules ≡ None → (k : ℕ) → first_place (get_or rules k []) ≡ None
+none_broken rule [] none k = refl
+none_broken rule (tests ∷ rules) none zero = (none_here rule (first_place tests) (first_broken (suc rule) rules) none).0
+none_broken rule (tests ∷ rules) none (suc k) = none_broken (suc rule) rules (none_here rule (first_place tests) (first_broken (suc rule) rules) none).1 k
+
+holds_at : (place : ℕ) (is_broken : Bool) → first_place (test_at place is_broken) ≡ None → is_broken ≡ false
 holds_at place true none = absurd (cc)
 holds_at place false none = refl
 
@@ -38,21 +45,21 @@ is_not false h = sym h
 pub sound : (file : List ℕ) → first_break file ≡ None → IsSound file
 unfolding first_break
 sound file unbroken =
-    let rule = none_broken 1 (header_rules file ++ table_rules file) unbroken in
+    let rule = none_broken 1 (rules file) unbroken in
     let long = holds_at 0 _ (rule 0) in
     let inside = holds_at 40 _ (rule 10) in
     record {
       contents = record {
         headers = record { header = grind (arith, nat_tests); sections = grind (arith, nat_tests) };
         names = is_not _ (holds_at 62 _ (rule 11));
-        contents = rule 12
+        contents = rule 12;
       };
       section_names = rule 13;
       symbol_table = rule 15;
       symbol_names = rule 16;
       symbol_sections = rule 17;
       reloc_tables = rule 18;
-      reloc_symbols = rule 19
+      reloc_symbols = rule 19;
     }
 
 -- each name begins in its table
@@ -69,9 +76,9 @@ named_symbol : (file : List ℕ) (k : ℕ) → is_unnamed_symbol file k ≡ fals
 unfolding is_unnamed_symbol
 named_symbol file k named = has_name-within (symbol_names file) (symbol file k).name (is_not _ named)
 
-pub symbol_passes : (file : List ℕ) (fails : ℕ → Bool) (k : ℕ) → first_symbol file fails ≡ None → k < symbol_count file → fails k ≡ false
-unfolding first_symbol
-symbol_passes file fails k none known = passes_none (symbol_place file) fails (symbol_count file) k none known
+pub symbol_passes : (file : List ℕ) (fails : ℕ → Bool) (k : ℕ) → first_place (symbol_tests file fails) ≡ None → k < symbol_count file → fails k ≡ false
+unfolding symbol_tests
+symbol_passes file fails k none known = row_passes (symbol_place file) fails (λ i j h. omega arith) (symbol_count file) k none known
 
 pub symbol_name_within : (file : List ℕ) (k : ℕ) (s : Symbol) → first_break file ≡ None → k < symbol_count file → s ≡ symbol file k → s.name ≤ length (symbol_names file)
 symbol_name_within file k s unbroken known is =

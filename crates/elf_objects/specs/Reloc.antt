@@ -1,10 +1,11 @@
 -- The relocations of an ELF64 file (System V ABI, "Relocation"), and their rules.
-use Rattle.std.specs.Prelude.{ℕ, ◌+◌, ◌*◌, ◌/◌, ◌%◌, min, Bool, not, ◌&&◌, ◌||◌, ◌==◌, nat_lt, nat_le, List, [], map, fold, Option, Some, None, option_map, if◌then◌else◌, bit_and}
-use Rattle.std.specs.List.{find, range_with_len}
+use Rattle.std.specs.Prelude.{ℕ, ◌+◌, ◌*◌, ◌/◌, ◌%◌, Bool, not, ◌&&◌, ◌||◌, ◌==◌, nat_lt, nat_le, List, [], map, if◌then◌else◌, bit_and}
+use Rattle.std.specs.List.{flat_map, range_with_len}
 use Rattle.elf_objects.specs.declared.section.Section.{Section}
 use Rattle.elf_objects.specs.declared.reloc.Reloc.{Reloc}
+use Rattle.elf_objects.specs.Breaks.{Test, row_tests}
 use Rattle.elf_objects.specs.Fields.{u32_at, u64_at}
-use Rattle.elf_objects.specs.Section.{section, section_count, section_numbers, entry_size, is_of_kind, first_header}
+use Rattle.elf_objects.specs.Section.{section, section_count, section_numbers, entry_size, is_of_kind, header_tests}
 use Rattle.elf_objects.specs.Symbol.{symbol_count}
 
 -- a relocation without addend (Elf64_Rel): of its info the low half is the type and the high half the symbol
@@ -12,7 +13,7 @@ abbrev pub reloc_at : List ℕ → ℕ → Reloc
 reloc_at file place = record {
   offset = u64_at file place;
   symbol = u32_at file (place + 12);
-  kind = u32_at file (place + 8)
+  kind = u32_at file (place + 8);
 }
 
 -- so many relocations, one after another
@@ -32,29 +33,21 @@ is_bad_reloc_table file number =
     (s.kind == 9 && (not (entry_size file number == 16) || not (s.size % 16 == 0) || not (is_of_kind file 2 s.link) || not names_section))
     || (s.kind == 4 && names_section && not (bit_and (section file s.info).flags 4 == 0))
 
-abbrev pub bad_reloc_table : List ℕ → Option ℕ
-bad_reloc_table file = first_header file (is_bad_reloc_table file)
+abbrev pub bad_reloc_table : List ℕ → List Test
+bad_reloc_table file = header_tests file (is_bad_reloc_table file)
 
 -- where a relocation of a section stands
 abbrev pub reloc_place : List ℕ → ℕ → ℕ → ℕ
 reloc_place file number index = (section file number).offset + 16 * index
 
--- whether its symbol isn't there
+-- E20: a relocation's symbol isn't there
 unfoldable pub lacks_symbol : List ℕ → ℕ → ℕ → Bool
 lacks_symbol file number index = nat_le (symbol_count file) (reloc_at file (reloc_place file number index)).symbol
 
--- the first such relocation of a section
-unfoldable pub missing_symbol_in : List ℕ → ℕ → Option ℕ
-missing_symbol_in file number =
+unfoldable pub reloc_tests : List ℕ → ℕ → List Test
+reloc_tests file number =
     let s = section file number in
-    if s.kind == 9 then option_map (reloc_place file number) (find (lacks_symbol file number) (range_with_len 0 (s.size / 16))) else None
+    if s.kind == 9 then row_tests (reloc_place file number) (lacks_symbol file number) (s.size / 16) else []
 
--- the lesser of two places, where there are two
-abbrev pub earlier : Option ℕ → Option ℕ → Option ℕ
-earlier None other = other
-earlier (Some place) None = Some place
-earlier (Some place) (Some other) = Some (min place other)
-
--- E20: a relocation's symbol isn't there
-unfoldable pub missing_symbol : List ℕ → Option ℕ
-missing_symbol file = fold (λ least number. earlier least (missing_symbol_in file number)) None (section_numbers file)
+unfoldable pub missing_symbol : List ℕ → List Test
+missing_symbol file = flat_map (reloc_tests file) (section_numbers file)

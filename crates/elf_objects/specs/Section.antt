@@ -1,7 +1,8 @@
 -- The section headers of an ELF64 file (System V ABI, "Sections"), and the rules that each meets by itself.
-use Rattle.std.specs.Prelude.{ℕ, ◌+◌, ◌*◌, ◌≤◌, Bool, not, ◌&&◌, ◌||◌, ◌==◌, nat_lt, List, [], ◌∷◌, length, take, drop, Option, option_map, if◌then◌else◌, bit_and}
-use Rattle.std.specs.List.{find, range_with_len}
+use Rattle.std.specs.Prelude.{ℕ, ◌+◌, ◌*◌, ◌≤◌, Bool, not, ◌&&◌, ◌||◌, ◌==◌, nat_lt, List, [], ◌∷◌, length, take, drop, if◌then◌else◌, bit_and}
+use Rattle.std.specs.List.{range_with_len}
 use Rattle.elf_objects.specs.declared.section.Section.{Section}
+use Rattle.elf_objects.specs.Breaks.{Test, row_tests}
 use Rattle.elf_objects.specs.Fields.{u16_at, u32_at, u64_at}
 
 -- e_shoff, e_shnum and e_shstrndx: where the section headers begin, how many there are, and which section holds their names
@@ -31,7 +32,7 @@ section file number = let place = header_place file number in record {
   offset = u64_at file (place + 24);
   size = u64_at file (place + 32);
   link = u32_at file (place + 40);
-  info = u32_at file (place + 44)
+  info = u32_at file (place + 44);
 }
 
 -- sh_entsize: how many bytes each entry of a table takes
@@ -54,21 +55,21 @@ has_bytes s = not (s.kind == 0 || s.kind == 8)
 abbrev pub content_of : List ℕ → Section → List ℕ
 content_of file s = if has_bytes s then take s.size (drop s.offset file) else []
 
--- where the first header stands that fails, by a test of its section's number
-unfoldable pub first_header : List ℕ → (ℕ → Bool) → Option ℕ
-first_header file fails = option_map (header_place file) (find fails (section_numbers file))
+-- the tests of the section headers, by whether the section of a number breaks the rule
+unfoldable pub header_tests : List ℕ → (ℕ → Bool) → List Test
+header_tests file fails = row_tests (header_place file) fails (section_count file)
 
 -- E13: the bytes of a section pass the file's end
 unfoldable pub is_past_end : List ℕ → ℕ → Bool
 is_past_end file number =
     let s = section file number in has_bytes s && nat_lt (length file) (s.offset + s.size)
 
-abbrev pub section_past_end : List ℕ → Option ℕ
-section_past_end file = first_header file (is_past_end file)
+abbrev pub section_past_end : List ℕ → List Test
+section_past_end file = header_tests file (is_past_end file)
 
 -- E15: a section is compressed (SHF_COMPRESSED)
 unfoldable pub is_compressed : List ℕ → ℕ → Bool
 is_compressed file number = not (bit_and (section file number).flags 0x800 == 0)
 
-abbrev pub compressed_section : List ℕ → Option ℕ
-compressed_section file = first_header file (is_compressed file)
+abbrev pub compressed_section : List ℕ → List Test
+compressed_section file = header_tests file (is_compressed file)

@@ -1,11 +1,12 @@
 -- The symbols of an ELF64 file (System V ABI, "Symbol Table"), and their rules.
-use Rattle.std.specs.Prelude.{ℕ, ◌+◌, ◌*◌, ◌/◌, ◌%◌, Bool, not, ◌&&◌, ◌||◌, ◌==◌, nat_lt, nat_le, List, slice_index, Option, option_map, unwrap_or}
-use Rattle.std.specs.List.{find, range_with_len}
+use Rattle.std.specs.Prelude.{ℕ, ◌+◌, ◌*◌, ◌/◌, ◌%◌, Bool, not, ◌&&◌, ◌||◌, ◌==◌, nat_lt, nat_le, List, slice_index, Option, unwrap_or}
+use Rattle.std.specs.List.{find}
 use Rattle.std.specs.Option.{option_map_or}
 use Rattle.elf_objects.specs.declared.section.Section.{Section}
 use Rattle.elf_objects.specs.declared.symbol.Symbol.{Symbol}
+use Rattle.elf_objects.specs.Breaks.{Test, row_tests}
 use Rattle.elf_objects.specs.Fields.{u16_at, u32_at, u64_at}
-use Rattle.elf_objects.specs.Section.{section, section_count, section_numbers, entry_size, is_of_kind, content_of, first_header}
+use Rattle.elf_objects.specs.Section.{section, section_count, section_numbers, entry_size, is_of_kind, content_of, header_tests}
 use Rattle.elf_objects.specs.Names.{has_name}
 
 -- the number of the first section of type SYMTAB
@@ -33,7 +34,7 @@ symbol_at file place = record {
   info = slice_index file (place + 4);
   section = u16_at file (place + 6);
   value = u64_at file (place + 8);
-  size = u64_at file (place + 16)
+  size = u64_at file (place + 16);
 }
 
 abbrev pub symbol : List ℕ → ℕ → Symbol
@@ -48,26 +49,26 @@ unfoldable pub is_bad_symbol_table : List ℕ → ℕ → Bool
 is_bad_symbol_table file number =
     let s = section file number in
     s.kind == 2 && (nat_lt (unwrap_or (symbol_table file) number) number || not (entry_size file number == 24)
-        || not (s.size % 24 == 0) || not (is_of_kind file 3 s.link))
+    || not (s.size % 24 == 0) || not (is_of_kind file 3 s.link))
 
-abbrev pub bad_symbol_table : List ℕ → Option ℕ
-bad_symbol_table file = first_header file (is_bad_symbol_table file)
+abbrev pub bad_symbol_table : List ℕ → List Test
+bad_symbol_table file = header_tests file (is_bad_symbol_table file)
 
--- where the first symbol stands that fails, by a test of its index
-unfoldable pub first_symbol : List ℕ → (ℕ → Bool) → Option ℕ
-first_symbol file fails = option_map (symbol_place file) (find fails (range_with_len 0 (symbol_count file)))
+-- the tests of the symbols, by whether the symbol of an index breaks the rule
+unfoldable pub symbol_tests : List ℕ → (ℕ → Bool) → List Test
+symbol_tests file fails = row_tests (symbol_place file) fails (symbol_count file)
 
 -- E17: a symbol's name isn't in its table up to a zero byte
 unfoldable pub is_unnamed_symbol : List ℕ → ℕ → Bool
 is_unnamed_symbol file index = not (has_name (symbol_names file) (symbol file index).name)
 
-abbrev pub unnamed_symbol : List ℕ → Option ℕ
-unnamed_symbol file = first_symbol file (is_unnamed_symbol file)
+abbrev pub unnamed_symbol : List ℕ → List Test
+unnamed_symbol file = symbol_tests file (is_unnamed_symbol file)
 
 -- E18: a symbol's section is no section of the file and no reserved number
 unfoldable pub is_astray : List ℕ → ℕ → Bool
 is_astray file index =
     let section = (symbol file index).section in nat_le (section_count file) section && nat_lt section 0xff00
 
-abbrev pub astray_symbol : List ℕ → Option ℕ
-astray_symbol file = first_symbol file (is_astray file)
+abbrev pub astray_symbol : List ℕ → List Test
+astray_symbol file = symbol_tests file (is_astray file)

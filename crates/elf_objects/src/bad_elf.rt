@@ -1,8 +1,9 @@
 //! Why a file is refused.
 
-ghost use Rattle.std.specs.Prelude.{◌≡◌, [], ◌∷◌};
+ghost use Rattle.std.specs.Prelude.{◌≡◌, None};
 ghost use Rattle.std.specs.Result.{result_err};
-ghost use Rattle.elf_objects.specs.Breaks.{broken_at, first_broken};
+ghost use Rattle.elf_objects.specs.Breaks.{first_place, break_or};
+ghost use Rattle.elf_objects.specs.Header.{test_at};
 
 use lists::OutOfMemory;
 
@@ -33,14 +34,14 @@ impl From<OutOfMemory> for ObjectEnd {
 
 /// The place of a rule that is tested at one place alone, where it is broken.
 pub(crate) fn broken_at(offset: u64, is_broken: bool) -> Option<u64>
-    ensures { result ≡ broken_at offset is_broken }
+    ensures { result ≡ first_place (test_at offset is_broken) }
 {
     is_broken.then_some(offset)
 }
 
 /// Refuses a file where a rule is broken.
 pub(crate) fn keeps(rule: u8, broken: Option<u64>) -> Result<(), BadElf>
-    ensures { result_err result ≡ first_broken rule (broken ∷ []) }
+    ensures { result_err result ≡ break_or rule broken None }
 {
     match broken {
         None => Ok(()),

@@ -29,6 +29,15 @@ pub(crate) fn check_header(file: &[u8]) -> Result<(), BadElf>
     keeps(9, broken_at(58, u16_at(file, 58) != 64))?;
     let count = u16_at(file, 60);
     keeps(10, broken_at(60, count == 0 || RESERVED <= count))?;
-    keeps(11, broken_at(40, passes_end(file.len(), u64_at(file, 40), 64 * u64::from(count))))?;
-    keeps(12, broken_at(62, !is_of_kind(file, STRTAB, name_section(file))))
+    keeps(
+        11,
+        broken_at(
+            40,
+            passes_end(file.len(), u64_at(file, 40), 64 * u64::from(count)),
+        ),
+    )?;
+    keeps(
+        12,
+        broken_at(62, !is_of_kind(file, STRTAB, name_section(file))),
+    )
 }

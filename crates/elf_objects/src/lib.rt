@@ -18,3 +18,6 @@ pub use object::{Object, read_object};
 pub use reloc::Reloc;
 pub use section::Section;
 pub use symbol::Symbol;
+
+#[cfg(test)]
+mod tests;

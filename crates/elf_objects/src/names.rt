@@ -1,6 +1,7 @@
 //! Tables of names, and the rule E14.
 
 ghost use Rattle.std.specs.Prelude.{◌≡◌, ◌<◌, ◌≤◌, ℕ, ◌==◌, length, nat_lt, position};
+ghost use Rattle.elf_objects.specs.Breaks.{first_place};
 ghost use Rattle.elf_objects.specs.Section.{HasHeaders, section_count};
 ghost use Rattle.elf_objects.specs.Names.{HasContents, has_name, name_at, section_names, is_unnamed, unnamed_section};
 
@@ -57,7 +58,7 @@ fn is_unnamed(file: &[u8], number: u32, end: usize) -> bool
 /// E14.
 pub(crate) fn unnamed_section(file: &[u8]) -> Option<u64>
     requires { HasContents file.now }
-    ensures { result ≡ unnamed_section file.now }
+    ensures { result ≡ first_place (unnamed_section file.now) }
 {
     let end = names_end(section_names(file));
     for number in 0..section_count(file) {

@@ -1,19 +1,23 @@
 //! An object, and how it is read.
 
-ghost use Rattle.std.specs.Prelude.{◌≡◌, ◌<◌, ◌↔◌, true, length, OnOk, IfOk};
+ghost use Rattle.std.specs.Prelude.{◌≡◌, ℕ, ◌<◌, ◌↔◌, true, length, OnOk, IfOk};
 ghost use Rattle.std.specs.Result.{result_err};
 ghost use Rattle.elf_objects.specs.Breaks.{first_broken};
 ghost use Rattle.elf_objects.specs.Section.{HasHeaders, section_count, section, name_section, is_of_kind};
 ghost use Rattle.elf_objects.specs.Symbol.{symbol_count, symbol};
-ghost use Rattle.elf_objects.specs.Object.{first_break, table_rules, sections, symbols, relocs, content, section_name, symbol_name};
+ghost use Rattle.elf_objects.specs.Object.{first_break, IsBroken, IsFirstBreak, table_rules, sections, symbols, relocs, content, section_name, symbol_name};
 
 use crate::bad_elf::{BadElf, ObjectEnd, keeps};
 use crate::header::check_header;
 use crate::names::{name_at, section_names, unnamed_section};
 use crate::reloc::{Reloc, bad_reloc_table, missing_symbol};
 use crate::reloc_tables::RelocTables;
-use crate::section::{REL, Section, compressed_section, content_of, read_sections, section_past_end};
-use crate::symbol::{Symbol, astray_symbol, bad_symbol_table, read_symbols, symbol_names, unnamed_symbol};
+use crate::section::{
+    REL, Section, compressed_section, content_of, read_sections, section_past_end,
+};
+use crate::symbol::{
+    Symbol, astray_symbol, bad_symbol_table, read_symbols, symbol_names, unnamed_symbol,
+};
 use lists::OutOfMemory;
 use std::alloc::Global;
 use std::marker::Model;
@@ -66,8 +70,13 @@ fn check(file: &[u8]) -> Result<(), BadElf>
 
 /// Reads an object from the bytes of its file. A file that breaks a rule is refused before any memory is taken.
 pub fn read_object<'a>(alloc: Global, bytes: &'a [u8]) -> Result<Object<'a>, ObjectEnd>
+    // BadElf comes exactly where a rule is broken, with the first break.
     ensures bad_elf { (bad : BadElf) → (result ≡ Err (ObjectEnd.BadElf bad)) ↔ (first_break bytes.now ≡ Some bad) }
-    ensures sound { OnOk result (first_break bytes.now ≡ None) }
+    ensures first { (bad : BadElf) → (first_break bytes.now ≡ Some bad) ↔ IsFirstBreak bytes.now bad }
+
+    // An object breaks no rule, and is seen as the bytes of its file.
+    ensures unbroken { OnOk result (first_break bytes.now ≡ None) }
+    ensures sound { OnOk result ((rule place : ℕ) → IsBroken bytes.now rule place → ⊥) }
     ensures object { IfOk result (λ object. object ≡ bytes.now) }
 {
     if let Err(bad) = check(bytes) {

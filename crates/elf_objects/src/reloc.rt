@@ -1,13 +1,16 @@
 //! The relocations, and the rules E19 and E20.
 
 ghost use Rattle.std.specs.Prelude.{◌≡◌, ◌+◌, ◌<◌, ◌≤◌, length};
+ghost use Rattle.elf_objects.specs.Breaks.{earlier, first_place};
 ghost use Rattle.elf_objects.specs.Section.{HasHeaders, section_count};
 ghost use Rattle.elf_objects.specs.Names.{HasContents};
 ghost use Rattle.elf_objects.specs.Symbol.{symbol_count};
-ghost use Rattle.elf_objects.specs.Reloc.{reloc_at, reloc_place, lacks_symbol, is_bad_reloc_table, bad_reloc_table, earlier, missing_symbol_in, missing_symbol};
+ghost use Rattle.elf_objects.specs.Reloc.{reloc_at, reloc_place, lacks_symbol, is_bad_reloc_table, bad_reloc_table, reloc_tests, missing_symbol};
 
 use crate::fields::{u32_at, u64_at};
-use crate::section::{REL, RELA, SYMTAB, entry_size, header_place, is_of_kind, section_at, section_count};
+use crate::section::{
+    REL, RELA, SYMTAB, entry_size, header_place, is_of_kind, section_at, section_count,
+};
 use crate::symbol::symbol_section;
 
 /// Section flag: the bytes are instructions (SHF_EXECINSTR).
@@ -53,7 +56,7 @@ fn is_bad_reloc_table(file: &[u8], number: u32) -> bool
 /// E19.
 pub(crate) fn bad_reloc_table(file: &[u8]) -> Option<u64>
     requires { HasHeaders file.now }
-    ensures { result ≡ bad_reloc_table file.now }
+    ensures { result ≡ first_place (bad_reloc_table file.now) }
 {
     for number in 0..section_count(file) {
         if is_bad_reloc_table(file, number) {
@@ -77,12 +80,11 @@ fn lacks_symbol(file: &[u8], number: u32, index: u64, symbols: u64) -> bool
 }
 
 /// Where the first relocation of a section stands whose symbol is none of so many.
-#[tactic(auto, unfolding(crate::specs::Reloc::missing_symbol_in))]
 fn missing_symbol_in(file: &[u8], number: u32, symbols: u64) -> Option<u64>
     requires contents { HasContents file.now }
     requires number { number < section_count file.now }
     requires symbols { symbols ≡ symbol_count file.now }
-    ensures { result ≡ missing_symbol_in file.now number }
+    ensures { result ≡ first_place (reloc_tests file.now number) }
 {
     let section = section_at(file, number);
     if section.kind != REL {
@@ -111,7 +113,7 @@ fn earlier(place: Option<u64>, other: Option<u64>) -> Option<u64>
 #[tactic(auto, unfolding(crate::specs::Reloc::missing_symbol))]
 pub(crate) fn missing_symbol(file: &[u8]) -> Option<u64>
     requires { HasContents file.now }
-    ensures { result ≡ missing_symbol file.now }
+    ensures { result ≡ first_place (missing_symbol file.now) }
 {
     let symbols = symbol_section(file).size / 24;
     let mut least = None;

@@ -50,8 +50,7 @@ fn relocs_at(
 fn are_held(rows: &[Section], remainder: u64) -> bool
     ensures { result ≡ list_any (has_relocs_from remainder) rows.now }
 {
-    rows.iter()
-        .any(|section| section.kind == REL && section.offset % 16 == remainder)
+    rows.iter().any(|section| section.kind == REL && section.offset % 16 == remainder)
 }
 
 /// The relocations at the places with a remainder, if a section holds any of them.
@@ -77,11 +76,7 @@ fn reloc_table(
 }
 
 impl RelocTables {
-    pub(crate) fn read(
-        alloc: Global,
-        file: &[u8],
-        rows: &[Section],
-    ) -> Result<Self, OutOfMemory>
+    pub(crate) fn read(alloc: Global, file: &[u8], rows: &[Section]) -> Result<Self, OutOfMemory>
         requires rows { rows.now ≡ sections file.now }
         requires header { 64 ≤ length file.now }
         ensures { IfOk result (λ tables. tables ≡ reloc_tables file.now) }

@@ -1,6 +1,7 @@
 //! The section headers, and the rules E13 and E15, which each meets by itself.
 
 ghost use Rattle.std.specs.Prelude.{◌≡◌, ◌+◌, ◌<◌, ◌≤◌, true, None, IfOk, length, nat_lt};
+ghost use Rattle.elf_objects.specs.Breaks.{first_place};
 ghost use Rattle.elf_objects.specs.Section.{HasHeaders, section_count, name_section, header_place, section, entry_size, is_of_kind, has_bytes, content_of, is_past_end, section_past_end, is_compressed, compressed_section};
 ghost use Rattle.elf_objects.specs.Object.{sections};
 
@@ -10,10 +11,15 @@ use std::alloc::Global;
 
 // Section types: SHT_NULL, SHT_SYMTAB, SHT_STRTAB, SHT_RELA, SHT_NOBITS and SHT_REL.
 pub(crate) const NULL: u32 = 0;
+
 pub(crate) const SYMTAB: u32 = 2;
+
 pub(crate) const STRTAB: u32 = 3;
+
 pub(crate) const RELA: u32 = 4;
+
 pub(crate) const NOBITS: u32 = 8;
+
 pub(crate) const REL: u32 = 9;
 
 /// From here on a section's number names no section (SHN_LORESERVE).
@@ -116,7 +122,7 @@ pub(crate) fn content_of(file: &[u8], section: Section) -> &[u8]
 /// The bytes of the section of a number.
 pub(crate) fn content_at(file: &[u8], number: u32) -> &[u8]
     requires headers { HasHeaders file.now }
-    requires contents { section_past_end file.now ≡ None }
+    requires contents { first_place (section_past_end file.now) ≡ None }
     requires number { number < section_count file.now }
     ensures { result.now ≡ content_of file.now (section file.now number) }
 {
@@ -138,7 +144,7 @@ fn is_past_end(file: &[u8], number: u32) -> bool
 /// E13.
 pub(crate) fn section_past_end(file: &[u8]) -> Option<u64>
     requires { HasHeaders file.now }
-    ensures { result ≡ section_past_end file.now }
+    ensures { result ≡ first_place (section_past_end file.now) }
 {
     for number in 0..section_count(file) {
         if is_past_end(file, number) {
@@ -160,7 +166,7 @@ fn is_compressed(file: &[u8], number: u32) -> bool
 /// E15.
 pub(crate) fn compressed_section(file: &[u8]) -> Option<u64>
     requires { HasHeaders file.now }
-    ensures { result ≡ compressed_section file.now }
+    ensures { result ≡ first_place (compressed_section file.now) }
 {
     for number in 0..section_count(file) {
         if is_compressed(file, number) {

@@ -1,6 +1,7 @@
 //! The symbols, and the rules E16 to E18.
 
 ghost use Rattle.std.specs.Prelude.{◌≡◌, ◌+◌, ◌*◌, ◌/◌, ◌<◌, ◌≤◌, ℕ, None, IfSome, IfOk, length, nat_lt};
+ghost use Rattle.elf_objects.specs.Breaks.{first_place};
 ghost use Rattle.elf_objects.specs.Section.{HasHeaders, section_count, section_past_end};
 ghost use Rattle.elf_objects.specs.Names.{HasContents, has_name};
 ghost use Rattle.elf_objects.specs.Symbol.{symbol_table, symbol_section, symbol_count, symbol_place, symbol_at, symbol_names, is_bad_symbol_table, bad_symbol_table, is_unnamed_symbol, unnamed_symbol, is_astray, astray_symbol};
@@ -8,7 +9,10 @@ ghost use Rattle.elf_objects.specs.Object.{symbols};
 
 use crate::fields::{u16_at, u32_at, u64_at};
 use crate::names::names_end;
-use crate::section::{RESERVED, STRTAB, SYMTAB, Section, content_at, entry_size, header_place, is_of_kind, section_at, section_count};
+use crate::section::{
+    RESERVED, STRTAB, SYMTAB, Section, content_at, entry_size, header_place, is_of_kind,
+    section_at, section_count,
+};
 use lists::OutOfMemory;
 use std::alloc::Global;
 
@@ -44,8 +48,8 @@ pub(crate) fn symbol_table(file: &[u8]) -> Option<u32>
 pub(crate) fn symbol_section(file: &[u8]) -> Section
     requires { HasHeaders file.now }
     ensures section { result ≡ symbol_section file.now }
-    ensures within { section_past_end file.now ≡ None → result.offset + result.size ≤ length file.now }
-    ensures names { HasContents file.now → bad_symbol_table file.now ≡ None
+    ensures within { first_place (section_past_end file.now) ≡ None → result.offset + result.size ≤ length file.now }
+    ensures names { HasContents file.now → first_place (bad_symbol_table file.now) ≡ None
         → result.link < section_count file.now }
 {
     match symbol_table(file) {
@@ -72,7 +76,7 @@ fn is_bad_symbol_table(file: &[u8], number: u32, first: Option<u32>) -> bool
 /// E16.
 pub(crate) fn bad_symbol_table(file: &[u8]) -> Option<u64>
     requires { HasHeaders file.now }
-    ensures { result ≡ bad_symbol_table file.now }
+    ensures { result ≡ first_place (bad_symbol_table file.now) }
 {
     let first = symbol_table(file);
     for number in 0..section_count(file) {
@@ -102,7 +106,7 @@ pub(crate) fn symbol_at(file: &[u8], table: Section, index: u64) -> Symbol
 /// The table of the symbols' names.
 pub(crate) fn symbol_names(file: &[u8]) -> &[u8]
     requires contents { HasContents file.now }
-    requires table { bad_symbol_table file.now ≡ None }
+    requires table { first_place (bad_symbol_table file.now) ≡ None }
     ensures { result.now ≡ symbol_names file.now }
 {
     content_at(file, symbol_section(file).link)
@@ -123,8 +127,8 @@ fn is_unnamed_symbol(file: &[u8], table: Section, index: u64, end: usize) -> boo
 /// E17.
 pub(crate) fn unnamed_symbol(file: &[u8]) -> Option<u64>
     requires contents { HasContents file.now }
-    requires table { bad_symbol_table file.now ≡ None }
-    ensures { result ≡ unnamed_symbol file.now }
+    requires table { first_place (bad_symbol_table file.now) ≡ None }
+    ensures { result ≡ first_place (unnamed_symbol file.now) }
 {
     let end = names_end(symbol_names(file));
     let table = symbol_section(file);
@@ -152,7 +156,7 @@ fn is_astray(file: &[u8], table: Section, index: u64, sections: u32) -> bool
 /// E18.
 pub(crate) fn astray_symbol(file: &[u8]) -> Option<u64>
     requires { HasContents file.now }
-    ensures { result ≡ astray_symbol file.now }
+    ensures { result ≡ first_place (astray_symbol file.now) }
 {
     let sections = section_count(file);
     let table = symbol_section(file);

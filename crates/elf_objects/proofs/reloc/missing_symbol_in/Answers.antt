@@ -1,36 +1,13 @@
-use Rattle.std.proofs.Common.{◌+◌, ◌*◌, ◌/◌, ◌≤◌, Bool, cond, length, None, Some, ap, subst, sym, ◌∙◌, arith}
-use Rattle.std.specs.List.{find, range_with_len}
-use Rattle.std.specs.Option.{option_map}
+use Rattle.std.proofs.Common.{◌≡◌, ◌+◌, ◌*◌, ◌/◌, ◌≤◌, Bool, cond, List, [], length, None, Some, ap, subst, sym, ◌∙◌, arith}
 use Rattle.std.proofs.lemmas.Bool.{eq-eqb}
 use Rattle.elf_objects.specs.declared.section.Section.{Section}
+use Rattle.elf_objects.specs.Breaks.{Test, row_tests, first_place}
 use Rattle.elf_objects.specs.Section.{section}
-use Rattle.elf_objects.specs.Reloc.{reloc_place, lacks_symbol, missing_symbol_in}
+use Rattle.elf_objects.specs.Reloc.{reloc_place, lacks_symbol, reloc_tests}
 use Rattle.elf_objects.proofs.Contents.{rel_fits}
-use Rattle.elf_objects.proofs.Search.{place_some, place_none}
+use Rattle.elf_objects.proofs.Search.{first_row, no_row}
+use Rattle.elf_objects.proofs.Relocs.{rel_tests, no_rel_tests}
 use Rattle.elf_objects.proofs.reloc.missing_symbol_in.Goals as goal
-
-pub returns-then-lacks_symbol : goal.returns-then-lacks_symbol
-unfolding missing_symbol_in
-returns-then-lacks_symbol c =
-    let file = c.args.file.now in
-    let number = c.args.number in
-    let section_is = c.section_at-section.ensures in
-    let is_rel = eq-eqb (section file number).kind 9 (sym (ap (λ (s : Section). s.kind) section_is) ∙ c.if-section-ne-REL.false) in
-    let count = ap (λ (s : Section). s.size / 16) section_is in
-    ap (λ (s : Section). Some (s.offset + 16 * c.loop-index.index)) section_is
-    ∙ sym (ap (λ (b : Bool). cond b (option_map (reloc_place file number) (find (lacks_symbol file number) (range_with_len 0 ((section file number).size / 16)))) None) is_rel
-        ∙ place_some (reloc_place file number) (lacks_symbol file number) ((section file number).size / 16) _ c.loop-index.invariant (omega arith) (cc))
-
-pub returns : goal.returns
-unfolding missing_symbol_in
-returns c =
-    let file = c.args.file.now in
-    let number = c.args.number in
-    let section_is = c.section_at-section.ensures in
-    let is_rel = eq-eqb (section file number).kind 9 (sym (ap (λ (s : Section). s.kind) section_is) ∙ c.if-section-ne-REL.false) in
-    let count = ap (λ (s : Section). s.size / 16) section_is in
-    sym (ap (λ (b : Bool). cond b (option_map (reloc_place file number) (find (lacks_symbol file number) (range_with_len 0 ((section file number).size / 16)))) None) is_rel
-        ∙ place_none (reloc_place file number) (lacks_symbol file number) ((section file number).size / 16) (λ k below. c.loop-index.invariant k (omega arith)))
 
 pub lacks_symbol-requires-clause-place : goal.lacks_symbol-requires-clause-place
 lacks_symbol-requires-clause-place c =
@@ -42,3 +19,25 @@ pub overflow_add-result : goal.overflow_add-result
 overflow_add-result c =
     let fits = rel_fits c.args.file.now c.args.number _ c.requires.contents.contents c.requires.number c.section_at-section.ensures c.if-section-ne-REL.false in
     omega arith
+
+pub returns-then-section-ne-REL : goal.returns-then-section-ne-REL
+returns-then-section-ne-REL c = sym (ap first_place (no_rel_tests c.args.file.now c.args.number _ c.section_at-section.ensures c.if-section-ne-REL.true))
+
+pub returns-then-lacks_symbol : goal.returns-then-lacks_symbol
+returns-then-lacks_symbol c =
+    let file = c.args.file.now in
+    let number = c.args.number in
+    let section_is = c.section_at-section.ensures in
+    let count = ap (λ (s : Section). s.size / 16) section_is in
+    ap (λ (s : Section). Some (s.offset + 16 * c.loop-index.index)) section_is
+    ∙ sym (ap first_place (rel_tests file number _ section_is c.if-section-ne-REL.false)
+        ∙ first_row (reloc_place file number) (lacks_symbol file number) (λ i j h. omega arith) ((section file number).size / 16) _ c.loop-index.invariant (omega arith) (cc))
+
+pub returns : goal.returns
+returns c =
+    let file = c.args.file.now in
+    let number = c.args.number in
+    let section_is = c.section_at-section.ensures in
+    let count = ap (λ (s : Section). s.size / 16) section_is in
+    sym (ap first_place (rel_tests file number _ section_is c.if-section-ne-REL.false)
+        ∙ no_row (reloc_place file number) (lacks_symbol file number) (λ i j h. omega arith) ((section file number).size / 16) (λ k known. c.loop-index.invariant k (omega arith)))
