@@ -1,5 +1,5 @@
 -- The first break of a list of rules is a break, and no other comes before it.
-use Rattle.std.proofs.Common.{◌≡◌, ℕ, zero, suc, ◌+◌, ◌-◌, ◌<◌, ◌≤◌, ◌⊎◌, ◌↔◌, min, Bool, true, false, List, [], ◌∷◌, ◌++◌, get_or, Option, Some, None, Contains, refl, sym, ap, subst, ◌∙◌, inl, inr, ⊎_elim, arith}
+use Rattle.std.proofs.Common.{◌≡◌, ℕ, zero, suc, ◌+◌, ◌-◌, ◌<◌, ◌≤◌, ◌⊎◌, ◌↔◌, min, true, false, List, [], ◌∷◌, get_or, Option, Some, None, Contains, refl, ap, subst, ◌∙◌, inl, inr, ⊎_elim, arith}
 use Rattle.std.proofs.lemmas.Bool.{cases_lt, false≢true}
 use Rattle.std.proofs.lemmas.List.Elements.{Contains-append_left, Contains-append_right, Contains-append_cases, Contains-push, Contains-push_cases}
 use Rattle.elf_objects.specs.declared.bad_elf.BadElf.{BadElf}
@@ -42,7 +42,7 @@ least_here tests here place None none later is =
       least = λ other h. ⊎_elim
           (λ (same : (here, true) ≡ (other, true)). let o = ap (λ (t : Test). t.0) same in omega arith)
           (λ (there : Contains tests (other, true)). absurd (place_none tests none other there))
-          (contains_cons (here, true) (other, true) tests h)
+          (contains_cons (here, true) (other, true) tests h);
     }
 least_here tests here place (Some p) some later is =
     let e : min here p ≡ place = cc in
@@ -55,7 +55,7 @@ least_here tests here place (Some p) some later is =
       least = λ other h. ⊎_elim
           (λ (same : (here, true) ≡ (other, true)). let o = ap (λ (t : Test). t.0) same in omega arith)
           (λ (there : Contains tests (other, true)). let below = rest.least other there in omega arith)
-          (contains_cons (here, true) (other, true) tests h)
+          (contains_cons (here, true) (other, true) tests h);
     }
 
 place_some : (tests : List Test) (place : ℕ) → first_place tests ≡ Some place → IsLeast tests place
@@ -67,7 +67,7 @@ place_some ((here, false) ∷ tests) place is =
       least = λ other h. ⊎_elim
           (λ (e : (here, false) ≡ (other, true)). absurd (false≢true (ap (λ (t : Test). t.1) e)))
           (λ (there : Contains tests (other, true)). rest.least other there)
-          (contains_cons (here, false) (other, true) tests h)
+          (contains_cons (here, false) (other, true) tests h);
     }
 place_some ((here, true) ∷ tests) place is = least_here tests here place (first_place tests) refl (place_some tests) is
 
@@ -99,7 +99,7 @@ first_here from tests others bad (Some place) some later is =
       numbered = omega arith;
       broken = let at : 0 ≡ bad.rule - from = omega arith in
           subst (λ k. Contains (get_or (tests ∷ others) k []) (bad.offset, true)) at (subst (λ p. Contains tests (p, true)) offset here.broken);
-      first = by_rule from tests others bad (λ other h. let below = here.least other h in inr (omega arith, omega arith)) (λ k other h. inl (omega arith))
+      first = by_rule from tests others bad (λ other h. let below = here.least other h in inr (omega arith, omega arith)) (λ k other h. inl (omega arith));
     }
 first_here from tests others bad None none later is =
     let rest = later is in
@@ -108,7 +108,7 @@ first_here from tests others bad None none later is =
       broken = let numbered = rest.numbered in
           let at : suc (bad.rule - suc from) ≡ bad.rule - from = omega arith in
           subst (λ k. Contains (get_or (tests ∷ others) k []) (bad.offset, true)) at rest.broken;
-      first = by_rule from tests others bad (λ other h. absurd (place_none tests none other h)) (λ k other h. moved from k bad other (rest.first k other h))
+      first = by_rule from tests others bad (λ other h. absurd (place_none tests none other h)) (λ k other h. moved from k bad other (rest.first k other h));
     }
 
 first_of : (from : ℕ) (others : List (List Test)) (bad : BadElf) → first_broken from others ≡ Some bad → IsFirst from others bad
@@ -138,7 +138,7 @@ to_first file bad is =
     let first = first_of 1 (rules file) bad is in
     record {
       broken = record { numbered = first.numbered; tested = first.broken };
-      first = λ rule place broken. renumbered rule bad place broken.numbered (first.first (rule - 1) place broken.tested)
+      first = λ rule place broken. renumbered rule bad place broken.numbered (first.first (rule - 1) place broken.tested);
     }
 
 -- two first breaks are one

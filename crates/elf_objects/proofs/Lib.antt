@@ -7,3 +7,4 @@ pub mod Soundness
 pub mod Rows
 pub mod Relocs
 pub mod FirstBreak
+pub mod References

@@ -2,7 +2,7 @@
 use Rattle.std.proofs.Common.{◌≡◌, ◌≢◌, ℕ, ◌/◌, Bool, cond, List, [], sym, ap, ◌∙◌}
 use Rattle.std.proofs.lemmas.Bool.{eq-eqb, ne_eqb}
 use Rattle.elf_objects.specs.declared.section.Section.{Section}
-use Rattle.elf_objects.specs.Breaks.{Test, row_tests}
+use Rattle.elf_objects.specs.Breaks.{row_tests}
 use Rattle.elf_objects.specs.Section.{section}
 use Rattle.elf_objects.specs.Reloc.{reloc_place, lacks_symbol, reloc_tests}
 

@@ -1,5 +1,5 @@
 -- A row of a table that is made row by row.
-use Rattle.std.proofs.Common.{◌≡◌, ℕ, ◌+◌, ◌*◌, ◌-◌, ◌/◌, ◌%◌, ◌<◌, ◌≤◌, Bool, true, ◌&&◌, ◌==◌, cond, List, [], length, get_or, take, drop, map, refl, sym, ap, subst, ◌∙◌, arith}
+use Rattle.std.proofs.Common.{◌≡◌, ℕ, ◌+◌, ◌*◌, ◌-◌, ◌/◌, ◌%◌, ◌<◌, ◌≤◌, true, ◌&&◌, ◌==◌, cond, List, [], length, get_or, take, drop, map, refl, sym, ap, ◌∙◌, arith}
 use Rattle.std.specs.List.{list_any, range_with_len}
 use Rattle.std.proofs.lemmas.Bool.{eq-eqb}
 use Rattle.std.proofs.lemmas.List.{get_or-drop, get_or-take, length-drop, length-take}
@@ -9,7 +9,7 @@ use Rattle.elf_objects.specs.declared.section.Section.{Section}
 use Rattle.elf_objects.specs.declared.reloc.Reloc.{Reloc}
 use Rattle.elf_objects.specs.Section.{section, section_count}
 use Rattle.elf_objects.specs.Reloc.{reloc_at, relocs_at}
-use Rattle.elf_objects.specs.RelocTables.{has_relocs_from, table_length, reloc_table, reloc_tables}
+use Rattle.elf_objects.specs.RelocTables.{has_relocs_from, reloc_table, reloc_tables}
 use Rattle.elf_objects.specs.Object.{sections}
 
 -- the row of a number
@@ -57,7 +57,12 @@ module _ (file : List ℕ) (k : ℕ) (s : Section) (known : k < section_count fi
   pub part_within : s.offset / 16 + s.size / 16 ≤ length (get_or (reloc_tables file) (s.offset % 16) [])
   part_within = let counted = ap length its_table ∙ length-relocs_at file (s.offset % 16) ((length file - s.offset % 16) / 16) in omega arith
 
-  pub part_is : take (s.size / 16) (drop (s.offset / 16) (get_or (reloc_tables file) (s.offset % 16) [])) ≡ relocs_at file s.offset (s.size / 16)
+  part_is : take (s.size / 16) (drop (s.offset / 16) (get_or (reloc_tables file) (s.offset % 16) [])) ≡ relocs_at file s.offset (s.size / 16)
   part_is =
       ap (λ (rows : List Reloc). take (s.size / 16) (drop (s.offset / 16) rows)) its_table
       ∙ part_of_relocs file (s.offset % 16) (s.offset / 16) ((length file - s.offset % 16) / 16) (s.size / 16) s.offset (omega arith) (omega arith)
+
+  -- what is sliced out of the tables is what the section holds
+  pub slice_is : (tables : List (List Reloc)) (rows : List Reloc) → tables ≡ reloc_tables file → rows ≡ take (s.size / 16) (drop (s.offset / 16) (get_or tables (s.offset % 16) [])) → rows ≡ relocs_at file s.offset (s.size / 16)
+  slice_is tables rows kept sliced =
+      sliced ∙ ap (λ (all : List (List Reloc)). take (s.size / 16) (drop (s.offset / 16) (get_or all (s.offset % 16) []))) kept ∙ part_is

@@ -1,5 +1,5 @@
 -- The least of a table's rows that breaks a rule, as a loop over the rows finds it.
-use Rattle.std.proofs.Common.{◌≡◌, ℕ, zero, suc, ◌+◌, ◌<◌, ◌≤◌, min, Bool, true, false, cond, Option, Some, None, IfSome, List, [], ◌∷◌, ◌++◌, map, add-one, append_assoc, refl, sym, ap, ◌∙◌, arith, ⊎_elim}
+use Rattle.std.proofs.Common.{◌≡◌, ℕ, zero, suc, ◌+◌, ◌<◌, ◌≤◌, Bool, true, false, cond, Option, Some, None, IfSome, List, [], ◌∷◌, ◌++◌, map, add-one, append_assoc, refl, sym, ap, ◌∙◌, arith, ⊎_elim}
 use Rattle.std.proofs.lemmas.Bool.{cases_lt}
 use Rattle.std.proofs.lemmas.List.{append-nil}
 use Rattle.std.proofs.lemmas.List.FromFn.{map-range_with_len_more}
@@ -53,10 +53,10 @@ module _ (place : ℕ → ℕ) (fails : ℕ → Bool) (rises : (i j : ℕ) → i
       let rest = first_place (rows_from place fails (a + 1) n) in
       ⊎_elim
       (λ (later : a < k). ap (λ b. cond b (earlier (Some (place a)) rest) rest) (passed a (omega arith) later)
-          ∙ found (a + 1) n k (omega arith) (omega arith) (λ j lo hi. passed j (omega arith) hi) here)
+      ∙ found (a + 1) n k (omega arith) (omega arith) (λ j lo hi. passed j (omega arith) hi) here)
       (λ (now : k ≤ a). let e : k ≡ a = omega arith in
-          ap (λ b. cond b (earlier (Some (place a)) rest) rest) (ap fails (sym e) ∙ here)
-          ∙ earlier_first (place a) rest (none_before (a + 1) n a (omega arith)) ∙ ap (λ i. Some (place i)) (sym e))
+      ap (λ b. cond b (earlier (Some (place a)) rest) rest) (ap fails (sym e) ∙ here)
+      ∙ earlier_first (place a) rest (none_before (a + 1) n a (omega arith)) ∙ ap (λ i. Some (place i)) (sym e))
       (cases_lt a k)
 
   absent : (a n : ℕ) → ((j : ℕ) → a ≤ j → j < a + n → fails j ≡ false) → first_place (rows_from place fails a n) ≡ None
@@ -91,9 +91,9 @@ found_from : (test : ℕ → Bool) (a n k : ℕ) → a ≤ k → k < a + n → (
 found_from test a zero k low high fails here = absurd (omega arith)
 found_from test a (suc n) k low high fails here = ⊎_elim
     (λ (later : a < k). ap (λ b. cond b (Some a) (find test (range_with_len (a + 1) n))) (fails a (omega arith) later)
-        ∙ found_from test (a + 1) n k (omega arith) (omega arith) (λ j lo hi. fails j (omega arith) hi) here)
+    ∙ found_from test (a + 1) n k (omega arith) (omega arith) (λ j lo hi. fails j (omega arith) hi) here)
     (λ (now : k ≤ a). let e : k ≡ a = omega arith in
-        ap (λ b. cond b (Some a) (find test (range_with_len (a + 1) n))) (ap test (sym e) ∙ here) ∙ ap Some (sym e))
+    ap (λ b. cond b (Some a) (find test (range_with_len (a + 1) n))) (ap test (sym e) ∙ here) ∙ ap Some (sym e))
     (cases_lt a k)
 
 absent_from : (test : ℕ → Bool) (a n : ℕ) → ((j : ℕ) → a ≤ j → j < a + n → test j ≡ false) → find test (range_with_len a n) ≡ None

@@ -1,12 +1,12 @@
 -- What holds of a file that breaks no rule.
-use Rattle.std.proofs.Common.{◌≡◌, ℕ, zero, suc, ◌+◌, ◌<◌, ◌≤◌, Bool, true, false, cond, not, List, [], ◌∷◌, ◌++◌, length, get_or, Option, Some, None, refl, sym, ap, subst, ◌∙◌, arith}
+use Rattle.std.proofs.Common.{◌≡◌, ℕ, zero, suc, ◌<◌, ◌≤◌, Bool, true, false, not, List, [], ◌∷◌, ◌++◌, length, get_or, Option, Some, None, refl, sym, subst, arith}
 use Rattle.std.proofs.lemmas.Bool.Decides.{nat_tests}
 use Rattle.elf_objects.specs.declared.bad_elf.BadElf.{BadElf}
 use Rattle.elf_objects.specs.Breaks.{Test, first_place, break_or, first_broken}
 use Rattle.elf_objects.specs.declared.section.Section.{Section}
 use Rattle.elf_objects.specs.declared.symbol.Symbol.{Symbol}
-use Rattle.elf_objects.specs.Section.{HasHeaders, section, section_table, section_count, name_section, is_of_kind}
-use Rattle.elf_objects.specs.Names.{HasContents, section_names, is_unnamed}
+use Rattle.elf_objects.specs.Section.{section, section_count}
+use Rattle.elf_objects.specs.Names.{section_names, is_unnamed}
 use Rattle.elf_objects.specs.Symbol.{symbol, symbol_count, symbol_place, symbol_names, symbol_tests, is_unnamed_symbol}
 use Rattle.elf_objects.specs.Header.{test_at}
 use Rattle.elf_objects.specs.Object.{rules, first_break, IsSound}

@@ -1,11 +1,11 @@
 -- What holds of the symbol table where the rules before the symbols' own hold.
 use Rattle.std.proofs.Common.{◌≡◌, ℕ, ◌+◌, ◌<◌, ◌≤◌, Bool, true, false, cond, List, [], ◌∷◌, Option, Some, None, length, refl, sym, ap, ◌∙◌, arith}
-use Rattle.std.specs.List.{find, range_with_len}
+use Rattle.std.specs.List.{find}
 use Rattle.std.specs.Option.{option_map_or}
 use Rattle.std.proofs.lemmas.Bool.Decides.{nat_tests}
 use Rattle.elf_objects.specs.declared.section.Section.{Section}
 use Rattle.elf_objects.specs.Breaks.{first_place}
-use Rattle.elf_objects.specs.Section.{section, section_count, section_numbers, is_of_kind, section_past_end, has_bytes}
+use Rattle.elf_objects.specs.Section.{section, section_count, section_numbers, is_of_kind, section_past_end}
 use Rattle.elf_objects.specs.Names.{HasContents}
 use Rattle.elf_objects.specs.Symbol.{symbol_table, symbol_section, null_section, is_bad_symbol_table, bad_symbol_table}
 use Rattle.elf_objects.proofs.Contents.{content_fits}

@@ -16,14 +16,14 @@ use Rattle.elf_objects.specs.Reloc.{relocs_of, bad_reloc_table, missing_symbol}
 abbrev pub table_rules : List ℕ → List (List Test)
 table_rules file =
     section_past_end file
-  ∷ unnamed_section file
-  ∷ compressed_section file
-  ∷ bad_symbol_table file
-  ∷ unnamed_symbol file
-  ∷ astray_symbol file
-  ∷ bad_reloc_table file
-  ∷ missing_symbol file
-  ∷ []
+    ∷ unnamed_section file
+    ∷ compressed_section file
+    ∷ bad_symbol_table file
+    ∷ unnamed_symbol file
+    ∷ astray_symbol file
+    ∷ bad_reloc_table file
+    ∷ missing_symbol file
+    ∷ []
 
 -- the rules E1 to E20, each as the tests of a file's places
 abbrev pub rules : List ℕ → List (List Test)

@@ -1,5 +1,5 @@
 -- The section headers of an ELF64 file (System V ABI, "Sections"), and the rules that each meets by itself.
-use Rattle.std.specs.Prelude.{ℕ, ◌+◌, ◌*◌, ◌≤◌, Bool, not, ◌&&◌, ◌||◌, ◌==◌, nat_lt, List, [], ◌∷◌, length, take, drop, if◌then◌else◌, bit_and}
+use Rattle.std.specs.Prelude.{ℕ, ◌+◌, ◌*◌, ◌≤◌, Bool, not, ◌&&◌, ◌||◌, ◌==◌, nat_lt, List, [], length, take, drop, if◌then◌else◌, bit_and}
 use Rattle.std.specs.List.{range_with_len}
 use Rattle.elf_objects.specs.declared.section.Section.{Section}
 use Rattle.elf_objects.specs.Breaks.{Test, row_tests}

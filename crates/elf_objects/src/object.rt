@@ -1,6 +1,6 @@
 //! An object, and how it is read.
 
-ghost use Rattle.std.specs.Prelude.{◌≡◌, ℕ, ◌<◌, ◌↔◌, true, length, OnOk, IfOk};
+ghost use Rattle.std.specs.Prelude.{◌≡◌, ℕ, ◌<◌, ◌≤◌, ◌⊎◌, ◌↔◌, All, true, length, OnOk, IfOk};
 ghost use Rattle.std.specs.Result.{result_err};
 ghost use Rattle.elf_objects.specs.Breaks.{first_broken};
 ghost use Rattle.elf_objects.specs.Section.{HasHeaders, section_count, section, name_section, is_of_kind};
@@ -104,19 +104,22 @@ fn read_sound<'a>(alloc: Global, file: &'a [u8]) -> Result<Object<'a>, OutOfMemo
 
 impl Object<'_> {
     pub fn sections(&self) -> &[Section]
-        ensures { result.now ≡ sections self.now }
+        ensures sections { result.now ≡ sections self.now }
+        ensures unbroken { first_break self.now ≡ None }
     {
         self.sections.as_slice()
     }
 
     pub fn symbols(&self) -> &[Symbol]
-        ensures { result.now ≡ symbols self.now }
+        ensures symbols { result.now ≡ symbols self.now }
+        ensures sections { All (λ s. (s.section < length (sections self.now)) ⊎ (0xff00 ≤ s.section)) result.now }
     {
         self.symbols.as_slice()
     }
 
     fn section(&self, number: u32) -> Section
         requires { number < length (sections self.now) }
+        ensures unbroken { first_break self.now ≡ None }
         ensures known { number < section_count self.now }
         ensures section { result ≡ section self.now number }
     {
@@ -125,6 +128,7 @@ impl Object<'_> {
 
     fn symbol(&self, index: u32) -> Symbol
         requires { index < length (symbols self.now) }
+        ensures unbroken { first_break self.now ≡ None }
         ensures known { index < symbol_count self.now }
         ensures symbol { result ≡ symbol self.now index }
     {
@@ -134,7 +138,8 @@ impl Object<'_> {
     /// The relocations that a section holds: none, unless it is of type REL.
     pub fn relocs(&self, section: u32) -> &[Reloc]
         requires { section < length (sections self.now) }
-        ensures { result.now ≡ relocs self.now section }
+        ensures relocs { result.now ≡ relocs self.now section }
+        ensures symbols { All (λ r. r.symbol < length (symbols self.now)) result.now }
     {
         let section = self.section(section);
         if section.kind != REL {

@@ -1,9 +1,8 @@
-use Rattle.std.proofs.Common.{◌≡◌, ◌+◌, ◌*◌, ◌/◌, ◌≤◌, Bool, cond, List, [], length, None, Some, ap, subst, sym, ◌∙◌, arith}
-use Rattle.std.proofs.lemmas.Bool.{eq-eqb}
+use Rattle.std.proofs.Common.{◌+◌, ◌*◌, ◌/◌, ◌≤◌, length, Some, ap, subst, sym, ◌∙◌, arith}
 use Rattle.elf_objects.specs.declared.section.Section.{Section}
-use Rattle.elf_objects.specs.Breaks.{Test, row_tests, first_place}
+use Rattle.elf_objects.specs.Breaks.{first_place}
 use Rattle.elf_objects.specs.Section.{section}
-use Rattle.elf_objects.specs.Reloc.{reloc_place, lacks_symbol, reloc_tests}
+use Rattle.elf_objects.specs.Reloc.{reloc_place, lacks_symbol}
 use Rattle.elf_objects.proofs.Contents.{rel_fits}
 use Rattle.elf_objects.proofs.Search.{first_row, no_row}
 use Rattle.elf_objects.proofs.Relocs.{rel_tests, no_rel_tests}
@@ -31,7 +30,7 @@ returns-then-lacks_symbol c =
     let count = ap (λ (s : Section). s.size / 16) section_is in
     ap (λ (s : Section). Some (s.offset + 16 * c.loop-index.index)) section_is
     ∙ sym (ap first_place (rel_tests file number _ section_is c.if-section-ne-REL.false)
-        ∙ first_row (reloc_place file number) (lacks_symbol file number) (λ i j h. omega arith) ((section file number).size / 16) _ c.loop-index.invariant (omega arith) (cc))
+    ∙ first_row (reloc_place file number) (lacks_symbol file number) (λ i j h. omega arith) ((section file number).size / 16) _ c.loop-index.invariant (omega arith) (cc))
 
 pub returns : goal.returns
 returns c =
@@ -40,4 +39,4 @@ returns c =
     let section_is = c.section_at-section.ensures in
     let count = ap (λ (s : Section). s.size / 16) section_is in
     sym (ap first_place (rel_tests file number _ section_is c.if-section-ne-REL.false)
-        ∙ no_row (reloc_place file number) (lacks_symbol file number) (λ i j h. omega arith) ((section file number).size / 16) (λ k known. c.loop-index.invariant k (omega arith)))
+    ∙ no_row (reloc_place file number) (lacks_symbol file number) (λ i j h. omega arith) ((section file number).size / 16) (λ k known. c.loop-index.invariant k (omega arith)))

@@ -1,4 +1,4 @@
-use Rattle.std.proofs.Common.{ℕ, List, length, ◌∙◌, ap, arith}
+use Rattle.std.proofs.Common.{length, ◌∙◌, ap, arith}
 use Rattle.elf_objects.specs.Symbol.{symbol, symbol_count}
 use Rattle.elf_objects.specs.Object.{symbols}
 use Rattle.elf_objects.proofs.Rows.{row_at, row_known}
