@@ -45,9 +45,9 @@ none_of_each tests a (suc n) k none low high =
     (λ (here : k ≤ a). let e : k ≡ a = omega arith in ap (λ i. first_place (tests i)) e ∙ both.0)
     (cases_lt a k)
 
-symbol_there : (file : List ℕ) (number index : ℕ) → lacks_symbol file number index ≡ false → (reloc_at file (reloc_place file number index)).symbol < symbol_count file
+symbol_there : (file : List ℕ) (place : ℕ) → lacks_symbol file place ≡ false → (reloc_at file place).symbol < symbol_count file
 unfolding lacks_symbol
-symbol_there file number index has = grind (arith, nat_tests)
+symbol_there file place has = grind (arith, nat_tests)
 
 section_tests : (file : List ℕ) (number : ℕ) → first_place (missing_symbol file) ≡ None → number < section_count file → first_place (reloc_tests file number) ≡ None
 unfolding missing_symbol
@@ -58,7 +58,7 @@ symbols_there : (file : List ℕ) (number : ℕ) → first_break file ≡ None �
 unfolding relocs_at
 symbols_there file number unbroken known rel = rows_hold (λ r. r.symbol < length (symbols file)) (λ index. reloc_at file (reloc_place file number index)) ((section file number).size / 16)
     (λ k within. subst (λ n. (reloc_at file (reloc_place file number k)).symbol < n) (sym (length-map-range_with_len (symbol file) 0 (symbol_count file)))
-    (symbol_there file number k (row_passes (reloc_place file number) (lacks_symbol file number) (λ i j h. omega arith) ((section file number).size / 16) k
+    (symbol_there file (reloc_place file number k) (row_passes (reloc_place file number) (λ index. lacks_symbol file (reloc_place file number index)) (λ i j h. omega arith) ((section file number).size / 16) k
     (sym (ap first_place (rel_tests file number (section file number) refl rel)) ∙ section_tests file number (sound file unbroken).reloc_symbols known) within)))
 
 pub reloc_symbols : (file : List ℕ) (number : ℕ) (s : Section) → first_break file ≡ None → number < section_count file → s ≡ section file number → s.kind ≡ 9 → All (λ r. r.symbol < length (symbols file)) (relocs_at file s.offset (s.size / 16))

@@ -7,14 +7,14 @@ use Rattle.elf_objects.specs.Section.{section}
 use Rattle.elf_objects.specs.Reloc.{reloc_place, lacks_symbol, reloc_tests}
 
 module _ (file : List ℕ) (number : ℕ) (s : Section) (is : s ≡ section file number) where
-  pub rel_tests : s.kind ≡ 9 → reloc_tests file number ≡ row_tests (reloc_place file number) (lacks_symbol file number) ((section file number).size / 16)
+  pub rel_tests : s.kind ≡ 9 → reloc_tests file number ≡ row_tests (reloc_place file number) (λ index. lacks_symbol file (reloc_place file number index)) ((section file number).size / 16)
   unfolding reloc_tests
   rel_tests rel =
-      ap (λ (b : Bool). cond b (row_tests (reloc_place file number) (lacks_symbol file number) ((section file number).size / 16)) [])
+      ap (λ (b : Bool). cond b (row_tests (reloc_place file number) (λ index. lacks_symbol file (reloc_place file number index)) ((section file number).size / 16)) [])
       (eq-eqb (section file number).kind 9 (sym (ap (λ (t : Section). t.kind) is) ∙ rel))
 
   pub no_rel_tests : s.kind ≢ 9 → reloc_tests file number ≡ []
   unfolding reloc_tests
   no_rel_tests other =
-      ap (λ (b : Bool). cond b (row_tests (reloc_place file number) (lacks_symbol file number) ((section file number).size / 16)) [])
+      ap (λ (b : Bool). cond b (row_tests (reloc_place file number) (λ index. lacks_symbol file (reloc_place file number index)) ((section file number).size / 16)) [])
       (ne_eqb (section file number).kind 9 (λ rel. other (ap (λ (t : Section). t.kind) is ∙ rel)))

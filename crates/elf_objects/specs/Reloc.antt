@@ -40,14 +40,15 @@ bad_reloc_table file = header_tests file (is_bad_reloc_table file)
 abbrev pub reloc_place : List ℕ → ℕ → ℕ → ℕ
 reloc_place file number index = (section file number).offset + 16 * index
 
--- E20: a relocation's symbol isn't there
-unfoldable pub lacks_symbol : List ℕ → ℕ → ℕ → Bool
-lacks_symbol file number index = nat_le (symbol_count file) (reloc_at file (reloc_place file number index)).symbol
+-- E20: the symbol of the relocation at a place isn't there
+unfoldable pub lacks_symbol : List ℕ → ℕ → Bool
+lacks_symbol file place = nat_le (symbol_count file) (reloc_at file place).symbol
 
 unfoldable pub reloc_tests : List ℕ → ℕ → List Test
 reloc_tests file number =
     let s = section file number in
-    if s.kind == 9 then row_tests (reloc_place file number) (lacks_symbol file number) (s.size / 16) else []
+    let place = reloc_place file number in
+    if s.kind == 9 then row_tests place (λ index. lacks_symbol file (place index)) (s.size / 16) else []
 
 unfoldable pub missing_symbol : List ℕ → List Test
 missing_symbol file = flat_map (reloc_tests file) (section_numbers file)

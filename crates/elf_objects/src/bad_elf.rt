@@ -40,7 +40,7 @@ pub(crate) fn broken_at(offset: u64, is_broken: bool) -> Option<u64>
 }
 
 /// Refuses a file where a rule is broken.
-pub(crate) fn keeps(rule: u8, broken: Option<u64>) -> Result<(), BadElf>
+pub(crate) fn check_rule(rule: u8, broken: Option<u64>) -> Result<(), BadElf>
     ensures { result_err result ≡ break_or rule broken None }
 {
     match broken {

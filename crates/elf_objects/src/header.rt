@@ -6,7 +6,7 @@ ghost use Rattle.elf_objects.specs.Breaks.{first_broken};
 ghost use Rattle.elf_objects.specs.Section.{HasHeaders, name_section, is_of_kind};
 ghost use Rattle.elf_objects.specs.Header.{header_rules};
 
-use crate::bad_elf::{BadElf, broken_at, keeps};
+use crate::bad_elf::{BadElf, broken_at, check_rule};
 use crate::fields::{u16_at, u32_at, u64_at};
 use crate::section::{RESERVED, STRTAB, is_of_kind, name_section, passes_end};
 
@@ -18,26 +18,19 @@ pub(crate) fn check_header(file: &[u8]) -> Result<(), BadElf>
     ensures headers { OnOk result (HasHeaders file.now) }
     ensures names { OnOk result (is_of_kind file.now 3 (name_section file.now) ≡ true) }
 {
-    keeps(1, broken_at(0, file.len() < 64))?;
-    keeps(2, broken_at(0, u32_at(file, 0) != MAGIC))?;
-    keeps(3, broken_at(4, file[4] != 2))?;
-    keeps(4, broken_at(5, file[5] != 1))?;
-    keeps(5, broken_at(6, file[6] != 1))?;
-    keeps(6, broken_at(16, u16_at(file, 16) != 1))?;
-    keeps(7, broken_at(18, u16_at(file, 18) != 247))?;
-    keeps(8, broken_at(20, u32_at(file, 20) != 1))?;
-    keeps(9, broken_at(58, u16_at(file, 58) != 64))?;
+    check_rule(1, broken_at(0, file.len() < 64))?;
+    check_rule(2, broken_at(0, u32_at(file, 0) != MAGIC))?;
+    check_rule(3, broken_at(4, file[4] != 2))?;
+    check_rule(4, broken_at(5, file[5] != 1))?;
+    check_rule(5, broken_at(6, file[6] != 1))?;
+    check_rule(6, broken_at(16, u16_at(file, 16) != 1))?;
+    check_rule(7, broken_at(18, u16_at(file, 18) != 247))?;
+    check_rule(8, broken_at(20, u32_at(file, 20) != 1))?;
+    check_rule(9, broken_at(58, u16_at(file, 58) != 64))?;
     let count = u16_at(file, 60);
-    keeps(10, broken_at(60, count == 0 || RESERVED <= count))?;
-    keeps(
-        11,
-        broken_at(
-            40,
-            passes_end(file.len(), u64_at(file, 40), 64 * u64::from(count)),
-        ),
-    )?;
-    keeps(
-        12,
-        broken_at(62, !is_of_kind(file, STRTAB, name_section(file))),
-    )
+    check_rule(10, broken_at(60, count == 0 || RESERVED <= count))?;
+    let past_end = passes_end(file.len(), u64_at(file, 40), 64 * u64::from(count));
+    check_rule(11, broken_at(40, past_end))?;
+    let has_names = is_of_kind(file, STRTAB, name_section(file));
+    check_rule(12, broken_at(62, !has_names))
 }

@@ -7,7 +7,7 @@ ghost use Rattle.elf_objects.specs.Section.{HasHeaders, section_count, section, 
 ghost use Rattle.elf_objects.specs.Symbol.{symbol_count, symbol};
 ghost use Rattle.elf_objects.specs.Object.{first_break, IsBroken, IsFirstBreak, table_rules, sections, symbols, relocs, content, section_name, symbol_name};
 
-use crate::bad_elf::{BadElf, ObjectEnd, keeps};
+use crate::bad_elf::{BadElf, ObjectEnd, check_rule};
 use crate::header::check_header;
 use crate::names::{name_at, section_names, unnamed_section};
 use crate::reloc::{Reloc, bad_reloc_table, missing_symbol};
@@ -50,14 +50,14 @@ fn check_tables(file: &[u8]) -> Result<(), BadElf>
     requires names { is_of_kind file.now 3 (name_section file.now) ≡ true }
     ensures { result_err result ≡ first_broken 13 (table_rules file.now) }
 {
-    keeps(13, section_past_end(file))?;
-    keeps(14, unnamed_section(file))?;
-    keeps(15, compressed_section(file))?;
-    keeps(16, bad_symbol_table(file))?;
-    keeps(17, unnamed_symbol(file))?;
-    keeps(18, astray_symbol(file))?;
-    keeps(19, bad_reloc_table(file))?;
-    keeps(20, missing_symbol(file))
+    check_rule(13, section_past_end(file))?;
+    check_rule(14, unnamed_section(file))?;
+    check_rule(15, compressed_section(file))?;
+    check_rule(16, bad_symbol_table(file))?;
+    check_rule(17, unnamed_symbol(file))?;
+    check_rule(18, astray_symbol(file))?;
+    check_rule(19, bad_reloc_table(file))?;
+    check_rule(20, missing_symbol(file))
 }
 
 #[tactic(auto, unfolding(crate::specs::Object::first_break))]

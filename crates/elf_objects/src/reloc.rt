@@ -5,7 +5,7 @@ ghost use Rattle.elf_objects.specs.Breaks.{earlier, first_place};
 ghost use Rattle.elf_objects.specs.Section.{HasHeaders, section_count};
 ghost use Rattle.elf_objects.specs.Names.{HasContents};
 ghost use Rattle.elf_objects.specs.Symbol.{symbol_count};
-ghost use Rattle.elf_objects.specs.Reloc.{reloc_at, reloc_place, lacks_symbol, is_bad_reloc_table, bad_reloc_table, reloc_tests, missing_symbol};
+ghost use Rattle.elf_objects.specs.Reloc.{reloc_at, lacks_symbol, is_bad_reloc_table, bad_reloc_table, reloc_tests, missing_symbol};
 
 use crate::fields::{u32_at, u64_at};
 use crate::section::{
@@ -66,16 +66,13 @@ pub(crate) fn bad_reloc_table(file: &[u8]) -> Option<u64>
     None
 }
 
-/// Whether the symbol of a section's relocation is none of so many.
+/// Whether the symbol of the relocation at a place is none of so many.
 #[tactic(auto, unfolding(crate::specs::Reloc::lacks_symbol))]
-fn lacks_symbol(file: &[u8], number: u32, index: u64, symbols: u64) -> bool
-    requires headers { HasHeaders file.now }
-    requires number { number < section_count file.now }
-    requires place { reloc_place file.now number index + 16 ≤ length file.now }
+fn lacks_symbol(file: &[u8], place: u64, symbols: u64) -> bool
+    requires place { place + 16 ≤ length file.now }
     requires symbols { symbols ≡ symbol_count file.now }
-    ensures { result ≡ lacks_symbol file.now number index }
+    ensures { result ≡ lacks_symbol file.now place }
 {
-    let place = section_at(file, number).offset + 16 * index;
     symbols <= u64::from(reloc_at(file, place as usize).symbol)
 }
 
@@ -91,8 +88,9 @@ fn missing_symbol_in(file: &[u8], number: u32, symbols: u64) -> Option<u64>
         return None;
     }
     for index in 0..section.size / 16 {
-        if lacks_symbol(file, number, index, symbols) {
-            return Some(section.offset + 16 * index);
+        let place = section.offset + 16 * index;
+        if lacks_symbol(file, place, symbols) {
+            return Some(place);
         }
     }
     None

@@ -196,8 +196,8 @@ fn refuses_by_the_first_broken_rule(rt: HostRuntime) -> Result<(), Fail> {
         (408, &[(110, 4)], 18, 104),
         (408, &[(220, 9)], 19, 216),
         (408, &[(220, 9), (256, 2), (272, 16), (76, 2)], 20, 64),
-        // The later rule is broken too, and at an earlier place.
-        (408, &[(216, 23), (336, 16)], 14, 216),
+        // A later rule is broken too, and at an earlier place.
+        (408, &[(249, 255), (104, 23)], 13, 216),
     ];
     for (length, writes, rule, offset) in cases {
         let bytes = damaged(rt.alloc(), length, writes)?;
