@@ -28,7 +28,7 @@ astray_not file k not_astray = grind (arith, nat_tests)
 pub symbol_sections : (file : List ℕ) → first_break file ≡ None → All (λ s. (s.section < length (sections file)) ⊎ (0xff00 ≤ s.section)) (symbols file)
 symbol_sections file unbroken = rows_hold (λ s. (s.section < length (sections file)) ⊎ (0xff00 ≤ s.section)) (symbol file) (symbol_count file)
     (λ k known. subst (λ n. ((symbol file k).section < n) ⊎ (0xff00 ≤ (symbol file k).section)) (sym (length-map-range_with_len (section file) 0 (section_count file)))
-    (astray_not file k (symbol_passes file (is_astray file) k (sound file unbroken).symbol_sections known)))
+    (astray_not file k (symbol_passes file (is_astray file) k (sound file unbroken).placed_symbols known)))
 
 -- a rule that is broken in none of several lists of tests is broken in none of them
 earlier_none : (a b : Option ℕ) → earlier a b ≡ None → (a ≡ None) × (b ≡ None)

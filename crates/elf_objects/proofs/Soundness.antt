@@ -6,10 +6,11 @@ use Rattle.elf_objects.specs.Breaks.{Test, first_place, break_or, first_broken}
 use Rattle.elf_objects.specs.declared.section.Section.{Section}
 use Rattle.elf_objects.specs.declared.symbol.Symbol.{Symbol}
 use Rattle.elf_objects.specs.Section.{section, section_count}
-use Rattle.elf_objects.specs.Names.{section_names, is_unnamed}
-use Rattle.elf_objects.specs.Symbol.{symbol, symbol_count, symbol_place, symbol_names, symbol_tests, is_unnamed_symbol}
+use Rattle.elf_objects.specs.Names.{HasContents, section_names, is_unnamed, unnamed_section}
+use Rattle.elf_objects.specs.Symbol.{symbol, symbol_count, symbol_place, symbol_names, symbol_tests, is_unnamed_symbol, bad_symbol_table, unnamed_symbol, astray_symbol}
+use Rattle.elf_objects.specs.Reloc.{bad_reloc_table, missing_symbol}
 use Rattle.elf_objects.specs.Header.{test_at}
-use Rattle.elf_objects.specs.Object.{rules, first_break, IsSound}
+use Rattle.elf_objects.specs.Object.{rules, first_break}
 use Rattle.elf_objects.proofs.Search.{row_passes}
 use Rattle.elf_objects.proofs.Headers.{header_passes}
 use Rattle.elf_objects.proofs.NameTables.{has_name-within}
@@ -42,6 +43,16 @@ is_not : (b : Bool) → not b ≡ false → b ≡ true
 is_not true h = refl
 is_not false h = sym h
 
+-- each rule's tests find nothing
+pub record IsSound (file : List ℕ) : Type 0 where
+  pub contents : HasContents file
+  pub named_sections : first_place (unnamed_section file) ≡ None
+  pub symbol_table : first_place (bad_symbol_table file) ≡ None
+  pub named_symbols : first_place (unnamed_symbol file) ≡ None
+  pub placed_symbols : first_place (astray_symbol file) ≡ None
+  pub reloc_tables : first_place (bad_reloc_table file) ≡ None
+  pub reloc_symbols : first_place (missing_symbol file) ≡ None
+
 pub sound : (file : List ℕ) → first_break file ≡ None → IsSound file
 unfolding first_break
 sound file unbroken =
@@ -54,10 +65,10 @@ sound file unbroken =
         names = is_not _ (holds_at 62 _ (rule 11));
         contents = rule 12;
       };
-      section_names = rule 13;
+      named_sections = rule 13;
       symbol_table = rule 15;
-      symbol_names = rule 16;
-      symbol_sections = rule 17;
+      named_symbols = rule 16;
+      placed_symbols = rule 17;
       reloc_tables = rule 18;
       reloc_symbols = rule 19;
     }
@@ -70,7 +81,7 @@ named_section file k named = has_name-within (section_names file) (section file 
 pub section_name_within : (file : List ℕ) (k : ℕ) (s : Section) → first_break file ≡ None → k < section_count file → s ≡ section file k → s.name ≤ length (section_names file)
 section_name_within file k s unbroken known is =
     subst (λ (t : Section). t.name ≤ length (section_names file)) (sym is)
-    (named_section file k (header_passes file (is_unnamed file) k (sound file unbroken).section_names known))
+    (named_section file k (header_passes file (is_unnamed file) k (sound file unbroken).named_sections known))
 
 named_symbol : (file : List ℕ) (k : ℕ) → is_unnamed_symbol file k ≡ false → (symbol file k).name ≤ length (symbol_names file)
 unfolding is_unnamed_symbol
@@ -83,4 +94,4 @@ symbol_passes file fails k none known = row_passes (symbol_place file) fails (λ
 pub symbol_name_within : (file : List ℕ) (k : ℕ) (s : Symbol) → first_break file ≡ None → k < symbol_count file → s ≡ symbol file k → s.name ≤ length (symbol_names file)
 symbol_name_within file k s unbroken known is =
     subst (λ (t : Symbol). t.name ≤ length (symbol_names file)) (sym is)
-    (named_symbol file k (symbol_passes file (is_unnamed_symbol file) k (sound file unbroken).symbol_names known))
+    (named_symbol file k (symbol_passes file (is_unnamed_symbol file) k (sound file unbroken).named_symbols known))

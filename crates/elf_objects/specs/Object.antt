@@ -1,13 +1,13 @@
 -- What a relocatable BPF object says, as functions of its bytes, and which bytes are none.
-use Rattle.std.specs.Prelude.{◌≡◌, ℕ, ◌-◌, ◌<◌, ◌≤◌, ◌⊎◌, true, Contains, slice_index_or, List, [], ◌∷◌, ◌++◌, map, Option, None}
+use Rattle.std.specs.Prelude.{◌≡◌, ℕ, ◌-◌, ◌<◌, ◌≤◌, ◌⊎◌, true, Contains, slice_index_or, List, [], ◌∷◌, ◌++◌, map, Option}
 use Rattle.std.specs.List.{range_with_len}
 use Rattle.elf_objects.specs.declared.bad_elf.BadElf.{BadElf}
 use Rattle.elf_objects.specs.declared.section.Section.{Section}
 use Rattle.elf_objects.specs.declared.symbol.Symbol.{Symbol}
 use Rattle.elf_objects.specs.declared.reloc.Reloc.{Reloc}
-use Rattle.elf_objects.specs.Breaks.{Test, first_place, first_broken}
+use Rattle.elf_objects.specs.Breaks.{Test, first_broken}
 use Rattle.elf_objects.specs.Section.{section, section_numbers, section_past_end, compressed_section, content_of}
-use Rattle.elf_objects.specs.Names.{HasContents, name_at, section_names, unnamed_section}
+use Rattle.elf_objects.specs.Names.{name_at, section_names, unnamed_section}
 use Rattle.elf_objects.specs.Header.{header_rules}
 use Rattle.elf_objects.specs.Symbol.{symbol, symbol_count, symbol_names, bad_symbol_table, unnamed_symbol, astray_symbol}
 use Rattle.elf_objects.specs.Reloc.{relocs_of, bad_reloc_table, missing_symbol}
@@ -61,13 +61,3 @@ section_name file number = name_at (section_names file) (section file number).na
 
 abbrev pub symbol_name : List ℕ → ℕ → List ℕ
 symbol_name file index = name_at (symbol_names file) (symbol file index).name
-
--- what holds of the bytes of an object
-pub record IsSound (file : List ℕ) : Type 0 where
-  pub contents : HasContents file
-  pub section_names : first_place (unnamed_section file) ≡ None
-  pub symbol_table : first_place (bad_symbol_table file) ≡ None
-  pub symbol_names : first_place (unnamed_symbol file) ≡ None
-  pub symbol_sections : first_place (astray_symbol file) ≡ None
-  pub reloc_tables : first_place (bad_reloc_table file) ≡ None
-  pub reloc_symbols : first_place (missing_symbol file) ≡ None
