@@ -13,7 +13,7 @@ use crate::names::{name_at, section_names, unnamed_section};
 use crate::reloc::{Reloc, bad_reloc_table, missing_symbol};
 use crate::reloc_tables::RelocTables;
 use crate::section::{
-    REL, Section, compressed_section, content_of, read_sections, section_past_end,
+    REL, STRTAB, Section, compressed_section, content_of, read_sections, section_past_end,
 };
 use crate::symbol::{
     Symbol, astray_symbol, bad_symbol_table, read_symbols, symbol_names, unnamed_symbol,
@@ -47,7 +47,7 @@ impl<'a> Model for Object<'a> {
 /// The rules from E13 on, those on the tables of a file whose header is good.
 fn check_tables(file: &[u8]) -> Result<(), BadElf>
     requires headers { HasHeaders file.now }
-    requires names { is_of_kind file.now 3 (name_section file.now) ≡ true }
+    requires names { is_of_kind file.now STRTAB (name_section file.now) ≡ true }
     ensures { result_err result ≡ first_broken 13 (table_rules file.now) }
 {
     check_rule(13, section_past_end(file))?;
