@@ -2,15 +2,15 @@
 -- where a REL section begins at one of these places.
 use Rattle.std.specs.Prelude.{ℕ, ◌-◌, ◌/◌, ◌%◌, Bool, ◌&&◌, ◌==◌, List, length, map, if◌then◌else◌}
 use Rattle.std.specs.List.{list_any, range_with_len}
+use Rattle.elf_objects.specs.Numbers.{sht_rel}
 use Rattle.elf_objects.specs.declared.section.Section.{Section}
-use Rattle.elf_objects.specs.declared.section.TheConstants.{REL}
 use Rattle.elf_objects.specs.declared.reloc.Reloc.{Reloc}
 use Rattle.elf_objects.specs.Reloc.{relocs_at}
 use Rattle.elf_objects.specs.Object.{sections}
 
 -- whether a section is a REL that begins at a place with this remainder
 abbrev pub has_relocs_from : ℕ → Section → Bool
-has_relocs_from remainder s = s.kind == REL && s.offset % 16 == remainder
+has_relocs_from remainder s = s.kind == sht_rel && s.offset % 16 == remainder
 
 -- how many relocations are kept of those at the places with a remainder
 abbrev pub table_length : List ℕ → ℕ → ℕ

@@ -1,8 +1,8 @@
 -- The section headers of an ELF64 file (System V ABI, "Sections"), and the rules that each meets by itself.
 use Rattle.std.specs.Prelude.{ℕ, ◌+◌, ◌*◌, ◌≤◌, Bool, not, ◌&&◌, ◌||◌, ◌==◌, nat_lt, List, [], length, take, drop, if◌then◌else◌, bit_and}
 use Rattle.std.specs.List.{range_with_len}
+use Rattle.elf_objects.specs.Numbers.{sht_null, sht_nobits, shf_compressed}
 use Rattle.elf_objects.specs.declared.section.Section.{Section}
-use Rattle.elf_objects.specs.declared.section.TheConstants.{NULL, NOBITS, COMPRESSED}
 use Rattle.elf_objects.specs.Breaks.{Test, row_tests}
 use Rattle.elf_objects.specs.Fields.{u16_at, u32_at, u64_at}
 
@@ -50,7 +50,7 @@ is_of_kind file kind number = nat_lt number (section_count file) && ((section fi
 
 -- whether a section has bytes in the file, as each has that is neither null nor of type NOBITS
 abbrev pub has_bytes : Section → Bool
-has_bytes s = not (s.kind == NULL || s.kind == NOBITS)
+has_bytes s = not (s.kind == sht_null || s.kind == sht_nobits)
 
 -- the bytes of a section
 abbrev pub content_of : List ℕ → Section → List ℕ
@@ -70,7 +70,7 @@ section_past_end file = header_tests file (is_past_end file)
 
 -- E15: a section is compressed (SHF_COMPRESSED)
 unfoldable pub is_compressed : List ℕ → ℕ → Bool
-is_compressed file number = not (bit_and (section file number).flags COMPRESSED == 0)
+is_compressed file number = not (bit_and (section file number).flags shf_compressed == 0)
 
 abbrev pub compressed_section : List ℕ → List Test
 compressed_section file = header_tests file (is_compressed file)

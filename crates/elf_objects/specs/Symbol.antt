@@ -2,8 +2,8 @@
 use Rattle.std.specs.Prelude.{ℕ, ◌+◌, ◌*◌, ◌/◌, ◌%◌, Bool, not, ◌&&◌, ◌||◌, ◌==◌, nat_lt, nat_le, List, slice_index, Option, unwrap_or}
 use Rattle.std.specs.List.{find}
 use Rattle.std.specs.Option.{option_map_or}
+use Rattle.elf_objects.specs.Numbers.{sht_symtab, sht_strtab, shn_loreserve}
 use Rattle.elf_objects.specs.declared.section.Section.{Section}
-use Rattle.elf_objects.specs.declared.section.TheConstants.{SYMTAB, STRTAB, RESERVED}
 use Rattle.elf_objects.specs.declared.symbol.Symbol.{Symbol}
 use Rattle.elf_objects.specs.Breaks.{Test, row_tests}
 use Rattle.elf_objects.specs.Fields.{u16_at, u32_at, u64_at}
@@ -12,7 +12,7 @@ use Rattle.elf_objects.specs.Names.{has_name}
 
 -- the number of the first section of type SYMTAB
 unfoldable pub symbol_table : List ℕ → Option ℕ
-symbol_table file = find (is_of_kind file SYMTAB) (section_numbers file)
+symbol_table file = find (is_of_kind file sht_symtab) (section_numbers file)
 
 -- the header of section 0, which is that of no section
 abbrev pub null_section : Section
@@ -49,8 +49,8 @@ symbol_names file = content_of file (section file (symbol_section file).link)
 unfoldable pub is_bad_symbol_table : List ℕ → ℕ → Bool
 is_bad_symbol_table file number =
     let s = section file number in
-    s.kind == SYMTAB && (nat_lt (unwrap_or (symbol_table file) number) number || not (entry_size file number == 24)
-    || not (s.size % 24 == 0) || not (is_of_kind file STRTAB s.link))
+    s.kind == sht_symtab && (nat_lt (unwrap_or (symbol_table file) number) number || not (entry_size file number == 24)
+    || not (s.size % 24 == 0) || not (is_of_kind file sht_strtab s.link))
 
 abbrev pub bad_symbol_table : List ℕ → List Test
 bad_symbol_table file = header_tests file (is_bad_symbol_table file)
@@ -69,7 +69,7 @@ unnamed_symbol file = symbol_tests file (is_unnamed_symbol file)
 -- E18: a symbol's section is no section of the file and no reserved number
 unfoldable pub is_astray : List ℕ → ℕ → Bool
 is_astray file index =
-    let section = (symbol file index).section in nat_le (section_count file) section && nat_lt section RESERVED
+    let section = (symbol file index).section in nat_le (section_count file) section && nat_lt section shn_loreserve
 
 abbrev pub astray_symbol : List ℕ → List Test
 astray_symbol file = symbol_tests file (is_astray file)

@@ -4,6 +4,7 @@ ghost use Rattle.std.specs.Prelude.{◌≡◌, true, OnOk};
 ghost use Rattle.std.specs.Result.{result_err};
 ghost use Rattle.elf_objects.specs.Breaks.{first_broken};
 ghost use Rattle.elf_objects.specs.Section.{HasHeaders, name_section, is_of_kind};
+ghost use Rattle.elf_objects.specs.Numbers.{sht_strtab};
 ghost use Rattle.elf_objects.specs.Header.{header_rules};
 
 use crate::bad_elf::{BadElf, broken_at, check_rule};
@@ -31,7 +32,7 @@ const BPF: u16 = 247;
 pub(crate) fn check_header(file: &[u8]) -> Result<(), BadElf>
     ensures rules { result_err result ≡ first_broken 1 (header_rules file.now) }
     ensures headers { OnOk result (HasHeaders file.now) }
-    ensures names { OnOk result (is_of_kind file.now STRTAB (name_section file.now) ≡ true) }
+    ensures names { OnOk result (is_of_kind file.now sht_strtab (name_section file.now) ≡ true) }
 {
     check_rule(1, broken_at(0, file.len() < 64))?;
     check_rule(2, broken_at(0, u32_at(file, 0) != MAGIC))?;

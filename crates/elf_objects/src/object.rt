@@ -2,6 +2,7 @@
 
 ghost use Rattle.std.specs.Prelude.{◌≡◌, ℕ, ◌<◌, ◌≤◌, ◌⊎◌, ◌↔◌, All, true, length, OnOk, IfOk};
 ghost use Rattle.std.specs.Result.{result_err};
+ghost use Rattle.elf_objects.specs.Numbers.{sht_strtab, shn_loreserve};
 ghost use Rattle.elf_objects.specs.Breaks.{first_broken};
 ghost use Rattle.elf_objects.specs.Section.{HasHeaders, section_count, section, name_section, is_of_kind};
 ghost use Rattle.elf_objects.specs.Symbol.{symbol_count, symbol};
@@ -13,7 +14,7 @@ use crate::names::{name_at, section_names, unnamed_section};
 use crate::reloc::{Reloc, bad_reloc_table, missing_symbol};
 use crate::reloc_tables::RelocTables;
 use crate::section::{
-    REL, STRTAB, Section, compressed_section, content_of, read_sections, section_past_end,
+    REL, Section, compressed_section, content_of, read_sections, section_past_end,
 };
 use crate::symbol::{
     Symbol, astray_symbol, bad_symbol_table, read_symbols, symbol_names, unnamed_symbol,
@@ -47,7 +48,7 @@ impl<'a> Model for Object<'a> {
 /// The rules from E13 on, those on the tables of a file whose header is good.
 fn check_tables(file: &[u8]) -> Result<(), BadElf>
     requires headers { HasHeaders file.now }
-    requires names { is_of_kind file.now STRTAB (name_section file.now) ≡ true }
+    requires names { is_of_kind file.now sht_strtab (name_section file.now) ≡ true }
     ensures { result_err result ≡ first_broken 13 (table_rules file.now) }
 {
     check_rule(13, section_past_end(file))?;
@@ -112,7 +113,7 @@ impl Object<'_> {
 
     pub fn symbols(&self) -> &[Symbol]
         ensures symbols { result.now ≡ symbols self.now }
-        ensures sections { All (λ s. (s.section < length (sections self.now)) ⊎ (0xff00 ≤ s.section)) result.now }
+        ensures sections { All (λ s. (s.section < length (sections self.now)) ⊎ (shn_loreserve ≤ s.section)) result.now }
     {
         self.symbols.as_slice()
     }
