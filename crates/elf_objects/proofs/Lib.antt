@@ -1,0 +1,10 @@
+pub mod Search
+pub mod Headers
+pub mod Contents
+pub mod NameTables
+pub mod SymbolTable
+pub mod Soundness
+pub mod Rows
+pub mod Relocs
+pub mod FirstBreak
+pub mod References

@@ -1,0 +1,11 @@
+pub mod Numbers
+pub mod Fields
+pub mod Breaks
+pub mod Section
+pub mod Names
+pub mod Header
+pub mod Symbol
+pub mod Reloc
+pub mod Object
+pub mod RelocTables
+pub mod ObjectRead
