@@ -1,3 +1,4 @@
+pub mod Action
 pub mod Causes
 pub mod Streams
 pub mod Handles

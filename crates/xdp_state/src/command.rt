@@ -1,0 +1,75 @@
+ghost use Rattle.std.specs.Prelude.{◌≡◌, ◌<◌, ◌^◌, length, position};
+ghost use Rattle.xdp_state.specs.Wanted.{interface_named, has_name};
+
+use crate::attachment::{Kind, Mode};
+use crate::change::Change;
+use crate::interface::Interface;
+use filter_rules::{Policy, RuleKey};
+use lists::Bytes;
+
+/// A command of the script.
+#[derive(Debug, Drop)]
+pub enum Command {
+    FilterLoad {
+        interface: Bytes,
+        mode: Mode,
+        policy: Policy,
+        features: u8,
+    },
+    FilterRule {
+        key: RuleKey,
+        flags: u8,
+        remove: bool,
+    },
+}
+
+impl Command {
+    ghost use Rattle.xdp_state.specs.Wanted.{wanted};
+
+    /// The change that the command asks for. An interface that isn't declared counts as the one after the last.
+    pub fn wanted(&self, interfaces: &[Interface]) -> Change
+        requires { length interfaces.now < 2 ^ 32 }
+        ensures { result ≡ wanted interfaces.now self.now }
+    {
+        match self {
+            Command::FilterLoad {
+                interface,
+                mode,
+                policy,
+                features,
+            } => Change::Attach {
+                interface: place_of(interfaces, interface.as_slice()),
+                kind: Kind::Filter {
+                    policy: *policy,
+                    features: *features,
+                },
+                priority: 10,
+                rank: 0,
+                mask: 4,
+                mode: *mode,
+            },
+            Command::FilterRule { key, flags, .. } => Change::SetRule {
+                key: *key,
+                flags: *flags,
+            },
+        }
+    }
+}
+
+/// The number of the interface of this name, or how many there are.
+fn place_of(interfaces: &[Interface], name: &[u8]) -> u32
+    requires { length interfaces.now < 2 ^ 32 }
+    ensures { result ≡ interface_named interfaces.now name.now }
+{
+    let place = named(interfaces, name);
+    place.unwrap_or(interfaces.len()) as u32
+}
+
+/// The place of the interface of this name.
+fn named(interfaces: &[Interface], name: &[u8]) -> Option<usize>
+    ensures { result ≡ position (has_name name.now) interfaces.now }
+{
+    interfaces
+        .iter()
+        .position(|interface| interface.name.as_slice() == name)
+}
