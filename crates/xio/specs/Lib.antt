@@ -1,4 +1,5 @@
 pub mod Causes
+pub mod Prefixes
 pub mod Streams
 pub mod Handles
 pub mod Told

@@ -1,5 +1,5 @@
 -- What an object of files may tell of itself, and how each call changes it.
-use Rattle.std.specs.Prelude.{ℕ, nat_eq, ◌+◌, ◌==◌, Bool, List, [], ◌∷◌, ◌++◌, length, take, drop, if◌then◌else◌, Result, Ok, Err}
+use Rattle.std.specs.Prelude.{ℕ, nat_eq, ◌+◌, List, [], ◌∷◌, ◌++◌, length, take, drop, if◌then◌else◌, Result, Ok, Err}
 use Rattle.std.specs.Cmp.Lexicographic.{pointwise}
 use Rattle.xio.specs.Handles.{set_at}
 use Rattle.xio.specs.declared.files.FileFault.{FileFault}

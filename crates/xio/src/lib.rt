@@ -4,12 +4,20 @@
 mod action;
 mod failed;
 mod files;
+mod read_end;
+mod reading;
 mod sink;
 mod source;
+mod write_fault;
+mod writing;
 
 pub use action::Action;
 pub use failed::Failed;
 pub use files::{FileFault, Files};
 pub use lists::{Bytes, List, OutOfMemory};
+pub use read_end::ReadEnd;
+pub use reading::read_all;
 pub use sink::Sink;
 pub use source::Source;
+pub use write_fault::WriteFault;
+pub use writing::write_all;

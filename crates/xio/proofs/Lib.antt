@@ -1,0 +1,2 @@
+pub mod PrefixLemmas
+mod Taken
