@@ -3,3 +3,4 @@ pub mod Prefixes
 pub mod Streams
 pub mod Handles
 pub mod Told
+pub mod Lent

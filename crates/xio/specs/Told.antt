@@ -67,3 +67,16 @@ after_flush t file (Ok _) = record t {
   flushed = set_named t.flushed (t.name_of file) (length (t.content (t.name_of file)));
 }
 after_flush t file (Err _) = t
+
+-- what is told once an opened file is taken to its end
+abbrev pub taken_whole : Told → ℕ → Told
+taken_whole t file = record t {
+  places = set_at t.places (t.call_of file) (t.places (t.call_of file) + length (rest_of t file));
+}
+
+-- what is told but for a made file's bytes
+abbrev pub told_beside : Told → ℕ → Told
+told_beside t file = record t {
+  content = set_named t.content (t.name_of file) [];
+  flushed = set_named t.flushed (t.name_of file) 0;
+}

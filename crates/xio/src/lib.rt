@@ -3,6 +3,8 @@
 
 mod action;
 mod failed;
+mod file_sink;
+mod file_source;
 mod files;
 mod read_end;
 mod reading;
@@ -13,6 +15,8 @@ mod writing;
 
 pub use action::Action;
 pub use failed::Failed;
+pub use file_sink::FileSink;
+pub use file_source::FileSource;
 pub use files::{FileFault, Files};
 pub use lists::{Bytes, List, OutOfMemory};
 pub use read_end::ReadEnd;
