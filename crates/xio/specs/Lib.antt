@@ -4,3 +4,4 @@ pub mod Streams
 pub mod Handles
 pub mod Told
 pub mod Lent
+pub mod ReadFile

@@ -10,6 +10,7 @@ mod read_end;
 mod reading;
 mod sink;
 mod source;
+mod whole_file;
 mod write_fault;
 mod writing;
 
@@ -23,5 +24,6 @@ pub use read_end::ReadEnd;
 pub use reading::read_all;
 pub use sink::Sink;
 pub use source::Source;
+pub use whole_file::read_file;
 pub use write_fault::WriteFault;
 pub use writing::write_all;

@@ -2,6 +2,7 @@ ghost use Rattle.std.specs.Prelude.{◌≡◌};
 ghost use Rattle.xio.specs.declared.read_end.ReadEnd.TheVariants.{ReadFault, OutOfMemory};
 
 use crate::failed::Failed;
+use crate::files::FileFault;
 
 /// Why a source was not read to its end.
 #[derive(Clone, Copy, Debug, PartialEq, Eq)]
@@ -25,5 +26,18 @@ impl From<lists::OutOfMemory> for ReadEnd {
 
     fn from(_: lists::OutOfMemory) -> Self {
         ReadEnd::OutOfMemory
+    }
+}
+
+impl From<FileFault> for ReadEnd {
+    ghost use Rattle.xio.specs.ReadFile.{end_of};
+
+    ghost from_gives = { λ fault end. end ≡ end_of fault };
+
+    fn from(fault: FileFault) -> Self {
+        match fault {
+            FileFault::Failed => ReadEnd::ReadFault,
+            FileFault::OutOfMemory => ReadEnd::OutOfMemory,
+        }
     }
 }
