@@ -5,3 +5,4 @@ pub mod Handles
 pub mod Told
 pub mod Lent
 pub mod ReadFile
+pub mod Room
