@@ -1,0 +1,4 @@
+pub mod PrefixLemmas
+pub mod SetLemmas
+mod Taken
+mod OneFile
