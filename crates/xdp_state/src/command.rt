@@ -1,9 +1,9 @@
-ghost use Rattle.std.specs.Prelude.{◌≡◌, ◌<◌, ◌^◌, length, position};
+ghost use Rattle.std.specs.Prelude.{◌≡◌, position};
 ghost use Rattle.xdp_state.specs.Wanted.{interface_named, has_name};
 
 use crate::attachment::{Kind, Mode};
 use crate::change::Change;
-use crate::interface::Interface;
+use crate::interface::{Interface, InterfaceList};
 use filter_rules::{Policy, RuleKey};
 use lists::Bytes;
 
@@ -27,8 +27,7 @@ impl Command {
     ghost use Rattle.xdp_state.specs.Wanted.{wanted};
 
     /// The change that the command asks for. An interface that isn't declared counts as the one after the last.
-    pub fn wanted(&self, interfaces: &[Interface]) -> Change
-        requires { length interfaces.now < 2 ^ 32 }
+    pub fn wanted(&self, interfaces: &InterfaceList) -> Change
         ensures { result ≡ wanted interfaces.now self.now }
     {
         match self {
@@ -57,12 +56,11 @@ impl Command {
 }
 
 /// The number of the interface of this name, or how many there are.
-fn place_of(interfaces: &[Interface], name: &[u8]) -> u32
-    requires { length interfaces.now < 2 ^ 32 }
+fn place_of(interfaces: &InterfaceList, name: &[u8]) -> u32
     ensures { result ≡ interface_named interfaces.now name.now }
 {
-    let place = named(interfaces, name);
-    place.unwrap_or(interfaces.len()) as u32
+    let place = named(interfaces.as_slice(), name);
+    place.unwrap_or(interfaces.len() as usize) as u32
 }
 
 /// The place of the interface of this name.

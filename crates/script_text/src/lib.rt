@@ -1,0 +1,13 @@
+//! The script that the tool runs, read from bytes, and the texts that it prints.
+#![tactic(auto)]
+
+mod outcome;
+mod processor;
+mod reading;
+mod script;
+mod what;
+
+pub use outcome::{Outcome, end_text, outcome_text};
+pub use processor::processor_line;
+pub use script::{Script, ScriptEnd, read_script};
+pub use what::{Line, LineList, What};
