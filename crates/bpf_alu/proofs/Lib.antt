@@ -1,0 +1,5 @@
+pub mod Bytes
+pub mod Digits
+pub mod Lemmas
+pub mod SignExtension
+pub mod TwosComplement

@@ -1,0 +1,4 @@
+pub mod Numbers
+pub mod Op
+pub mod Test
+pub mod Order

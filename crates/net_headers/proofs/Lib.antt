@@ -1,0 +1,5 @@
+pub mod Numbers
+pub mod Walk
+pub mod Longer
+pub mod Tagged
+pub mod Chain
