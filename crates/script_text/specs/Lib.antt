@@ -1,7 +1,7 @@
 pub mod Addresses
 pub mod Frames
+pub mod Handed
 pub mod Names
 pub mod Script
 pub mod Texts
 pub mod Words
-pub mod Handed

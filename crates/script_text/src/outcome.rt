@@ -1,6 +1,7 @@
 ghost use Rattle.std.specs.Prelude.{◌≡◌, IfOk};
 ghost use Rattle.script_text.specs.Texts.{outcome_text, end_text};
 
+use crate::text::bytes_of;
 use std::alloc::Global;
 use xio::{Bytes, OutOfMemory};
 
@@ -17,17 +18,21 @@ pub enum Outcome {
 pub fn outcome_text(alloc: Global, line: u32, outcome: &Outcome) -> Result<Bytes, OutOfMemory>
     ensures { IfOk result (λ text. text ≡ outcome_text line outcome.now) }
 {
-    let _ = alloc;
-    let _ = line;
-    let _ = outcome;
-    Err(OutOfMemory)
+    match outcome {
+        Outcome::Ok(number) => bytes_of(
+            alloc,
+            format!(in alloc; "{line} ok {number}\n")?.as_bytes(),
+        ),
+        Outcome::Handed { packets } => bytes_of(
+            alloc,
+            format!(in alloc; "{line} handed {packets}\n")?.as_bytes(),
+        ),
+    }
 }
 
 /// What is printed at the script's end, after so many publications.
 pub fn end_text(alloc: Global, count: u32) -> Result<Bytes, OutOfMemory>
     ensures { IfOk result (λ text. text ≡ end_text count) }
 {
-    let _ = alloc;
-    let _ = count;
-    Err(OutOfMemory)
+    bytes_of(alloc, format!(in alloc; "end {count}\n")?.as_bytes())
 }

@@ -8,6 +8,8 @@ mod perform;
 mod prepare;
 mod report;
 mod tell;
+#[cfg(test)]
+mod tests;
 mod tool;
 mod walk;
 mod words;
