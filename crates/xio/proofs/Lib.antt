@@ -2,3 +2,4 @@ pub mod PrefixLemmas
 pub mod SetLemmas
 mod Taken
 mod OneFile
+mod ShelfLemmas

@@ -6,3 +6,5 @@ pub mod Told
 pub mod Lent
 pub mod ReadFile
 pub mod Room
+pub mod Pieces
+pub mod Shelf

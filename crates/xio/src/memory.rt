@@ -1,7 +1,10 @@
 //! Forms in memory: they tell everything, and fail where they are told to.
 
 mod calls;
+mod pieces;
 mod room;
+mod shelf;
 mod sink;
+mod stored_file;
 
 pub use sink::MemorySink;
