@@ -3,3 +3,4 @@ pub mod SetLemmas
 mod Taken
 mod OneFile
 mod ShelfLemmas
+mod NumbersLemmas

@@ -8,3 +8,4 @@ pub mod ReadFile
 pub mod Room
 pub mod Pieces
 pub mod Shelf
+pub mod Numbers

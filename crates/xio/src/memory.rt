@@ -1,6 +1,9 @@
 //! Forms in memory: they tell everything, and fail where they are told to.
 
+mod ask;
 mod calls;
+mod entry;
+mod numbers;
 mod pieces;
 mod room;
 mod shelf;
