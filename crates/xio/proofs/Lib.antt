@@ -4,3 +4,4 @@ mod Taken
 mod OneFile
 mod ShelfLemmas
 mod NumbersLemmas
+mod PiecesLemmas

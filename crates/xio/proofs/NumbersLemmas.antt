@@ -7,7 +7,7 @@ use Rattle.std.proofs.lemmas.Bool.Decides.{eqb_tells}
 use Rattle.std.proofs.lemmas.Option.{slice_get_cases, slice_get_read}
 use Rattle.std.proofs.lemmas.List.{length-map}
 use mathlib.Core.Path.{fun_ext}
-use Rattle.xio.specs.Handles.{Closed, Opened, set_at}
+use Rattle.xio.specs.Handles.{Closed, set_at}
 use Rattle.xio.specs.Numbers.{part_at, handle_at, place_at, call_at, names_asked}
 use Rattle.xio.specs.declared.memory.ask.Ask.{Ask}
 use Rattle.xio.specs.declared.memory.entry.Entry.{Entry}
@@ -40,7 +40,7 @@ part_at-set part none rows i row within = fun_ext (λ m. elim (eqb_tells m i) [ 
 
 -- an opened file that was taken further
 pub place_at-moved : (asks : List Ask) (k i count : ℕ) (old new : Ask) → k ≡ i → i < length asks → old ≡ get_or asks k old → new.place ≡ old.place + count
-  → place_at (set asks k new) ≡ set_at (place_at asks) i (place_at asks i + count)
+    → place_at (set asks k new) ≡ set_at (place_at asks) i (place_at asks i + count)
 place_at-moved asks k i count old new same within at moved =
     let below : k < length asks = subst (λ n. n < length asks) (sym same) within in
     let place : place_at asks k ≡ old.place = part_at-read (λ ask. ask.place) 0 asks k old below at in
@@ -70,7 +70,7 @@ part_at-push part none rows row = fun_ext (λ m. elim (eqb_tells m (length rows)
 
 -- one more number, whose call is the last
 pub call_at-push : (entries : List Entry) (asks : List Ask) (entry : Entry) (n : ℕ) → n ≡ length entries → entry.call ≡ length asks
-  → call_at (entries ++ entry ∷ []) ≡ set_at (call_at entries) n (length (names_asked asks))
+    → call_at (entries ++ entry ∷ []) ≡ set_at (call_at entries) n (length (names_asked asks))
 call_at-push entries asks entry n at last =
     part_at-push (λ e. e.call) 0 entries entry ∙ ap (λ k. set_at (call_at entries) (length entries) k) (last ∙ sym (length-map asks (λ ask. ask.name)))
     ∙ ap (λ k. set_at (call_at entries) k (length (names_asked asks))) (sym at)

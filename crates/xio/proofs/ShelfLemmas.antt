@@ -1,12 +1,11 @@
 -- The named file, once its place on the shelf is known.
-use Rattle.std.proofs.Common.{◌≡◌, ◌≢◌, ℕ, ◌<◌, ◌⊎◌, nat_eq, nat_lt, Bool, true, false, cond, List, [], ◌∷◌, ◌++◌, length, get_or, Option, Some, None, refl, sym, subst, ◌∙◌, ap, inl, inr, arith, zero, suc, is_some}
+use Rattle.std.proofs.Common.{◌≡◌, ◌≢◌, ℕ, ◌<◌, ◌⊎◌, nat_eq, nat_lt, Bool, true, false, cond, List, [], ◌∷◌, ◌++◌, length, get_or, Some, None, refl, sym, subst, ◌∙◌, ap, inl, inr, arith, zero, suc, is_some}
 use Rattle.std.proofs.Math.ListN.{set}
 use Rattle.std.specs.Prelude.{find, position, slice_get}
 use Rattle.std.specs.Bool.{Decides}
 use Rattle.std.specs.List.{position_or_len}
 use Rattle.std.specs.Cmp.Lexicographic.{pointwise}
 use Rattle.std.specs.Option.{option_map_or}
-use Rattle.std.proofs.lemmas.Grind.{common_steps}
 use Rattle.std.proofs.lemmas.Bool.Decides.{nat_tests}
 use Rattle.std.proofs.lemmas.List.Folds.{find_at, find-set}
 use Rattle.std.proofs.lemmas.List.Quantifiers.{position-Some}
@@ -66,7 +65,7 @@ find-push p [] y e = refl
 find-push p (x ∷ xs) y e = passes (p x) refl (find-push p xs y)
   where
     passes : (b : Bool) → p x ≡ b → (find p xs ≡ None → find p (xs ++ y ∷ []) ≡ cond (p y) (Some y) None)
-      → cond (p x) (Some x) (find p (xs ++ y ∷ [])) ≡ cond (p y) (Some y) None
+        → cond (p x) (Some x) (find p (xs ++ y ∷ [])) ≡ cond (p y) (Some y) None
     passes true h later = absurd (let no : Some x ≡ None = rw h at e in cc)
     passes false h later = rw h (later (rw h at e))
 
@@ -76,16 +75,16 @@ find-push_other p [] y h = rw h refl
 find-push_other p (x ∷ xs) y h = ap (λ r. cond (p x) (Some x) r) (find-push_other p xs y h)
 
 pub part_of-found : {V : Type 0} (part : StoredFile → V) (none : V) (files : List StoredFile) (name : List ℕ) (i : ℕ) (d : StoredFile)
-  → position (has_name name) files ≡ Some i → part_of part none files name ≡ part (get_or files i d)
+    → position (has_name name) files ≡ Some i → part_of part none files name ≡ part (get_or files i d)
 part_of-found part none files name i d e = ap (λ found. option_map_or part found none) (find-position (has_name name) files i d e)
 
 pub part_of-missing : {V : Type 0} (part : StoredFile → V) (none : V) (files : List StoredFile) (name : List ℕ)
-  → position (has_name name) files ≡ None → part_of part none files name ≡ none
+    → position (has_name name) files ≡ None → part_of part none files name ≡ none
 part_of-missing part none files name e = ap (λ found. option_map_or part found none) (find-no_position (has_name name) files e)
 
 -- a file in the place of the one with its name
 pub part_of-set : {V : Type 0} (part : StoredFile → V) (none : V) (files : List StoredFile) (name : List ℕ) (i : ℕ) (file : StoredFile)
-  → position (has_name name) files ≡ Some i → has_name name file ≡ true → part_of part none (set files i file) ≡ set_named (part_of part none files) name (part file)
+    → position (has_name name) files ≡ Some i → has_name name file ≡ true → part_of part none (set files i file) ≡ set_named (part_of part none files) name (part file)
 part_of-set part none files name i file e named = fun_ext (λ q. elim (names_tell q name) [ inl same ↦ here q same.0 same.1 | inr differs ↦ elsewhere q differs.0 differs.1 ])
   where
     there : (i < length files) × (has_name name (get_or files i file) ≡ true) × ((k : ℕ) → k < i → has_name name (get_or files k file) ≡ false)
@@ -103,7 +102,7 @@ part_of-set part none files name i file e named = fun_ext (λ q. elim (names_tel
 
 -- a file behind the others, where none had its name
 pub part_of-push : {V : Type 0} (part : StoredFile → V) (none : V) (files : List StoredFile) (name : List ℕ) (file : StoredFile)
-  → position (has_name name) files ≡ None → name ≡ file.name → part_of part none (files ++ file ∷ []) ≡ set_named (part_of part none files) name (part file)
+    → position (has_name name) files ≡ None → name ≡ file.name → part_of part none (files ++ file ∷ []) ≡ set_named (part_of part none files) name (part file)
 part_of-push part none files name file e named = fun_ext (λ q. elim (names_tell q name) [ inl same ↦ here q same.0 same.1 | inr differs ↦ elsewhere q differs.0 ])
   where
     here : (q : List ℕ) → pointwise nat_eq q name ≡ true → q ≡ name → part_of part none (files ++ file ∷ []) q ≡ set_named (part_of part none files) name (part file) q
@@ -122,18 +121,18 @@ named_found files name i old e at = subst (λ (file : StoredFile). has_name name
 
 -- a part of the named file, which was reached by its place
 pub part_of-reached : {V : Type 0} (part : StoredFile → V) (none : V) (files : List StoredFile) (name : List ℕ) (i : ℕ) (old : StoredFile)
-  → position (has_name name) files ≡ Some i → old ≡ get_or files i old → part_of part none files name ≡ part old
+    → position (has_name name) files ≡ Some i → old ≡ get_or files i old → part_of part none files name ≡ part old
 part_of-reached part none files name i old e at = part_of-found part none files name i old e ∙ sym (ap part at)
 
 -- the named file with another content, and the same name
 pub part_of-changed : {V : Type 0} (part : StoredFile → V) (none : V) (files : List StoredFile) (name : List ℕ) (i : ℕ) (old new : StoredFile)
-  → position (has_name name) files ≡ Some i → old ≡ get_or files i old → new.name ≡ old.name → part_of part none (set files i new) ≡ set_named (part_of part none files) name (part new)
+    → position (has_name name) files ≡ Some i → old ≡ get_or files i old → new.name ≡ old.name → part_of part none (set files i new) ≡ set_named (part_of part none files) name (part new)
 part_of-changed part none files name i old new e at same =
     part_of-set part none files name i new e (ap (λ (n : List ℕ). pointwise nat_eq name n) same ∙ named_found files name i old e at)
 
 -- a part of it that is the same as before
 pub part_of-kept : {V : Type 0} (part : StoredFile → V) (none : V) (files : List StoredFile) (name : List ℕ) (i : ℕ) (old new : StoredFile)
-  → position (has_name name) files ≡ Some i → old ≡ get_or files i old → new.name ≡ old.name → part new ≡ part old → part_of part none (set files i new) ≡ part_of part none files
+    → position (has_name name) files ≡ Some i → old ≡ get_or files i old → new.name ≡ old.name → part new ≡ part old → part_of part none (set files i new) ≡ part_of part none files
 part_of-kept part none files name i old new e at same kept =
     part_of-changed part none files name i old new e at same
     ∙ sym (set_named-own (part_of part none files) name (part new) (part_of-reached part none files name i old e at ∙ sym kept))

@@ -9,3 +9,4 @@ pub mod Room
 pub mod Pieces
 pub mod Shelf
 pub mod Numbers
+pub mod MemoryFiles

@@ -1,5 +1,5 @@
 -- The files of a form in memory, by name: the first of a name is the file.
-use Rattle.std.specs.Prelude.{ℕ, nat_eq, Bool, List, [], find, is_some, Option, Some, None}
+use Rattle.std.specs.Prelude.{ℕ, nat_eq, Bool, List, [], find, Option, None}
 use Rattle.std.specs.Option.{option_map_or}
 use Rattle.std.specs.Cmp.Lexicographic.{pointwise}
 use Rattle.xio.specs.declared.memory.stored_file.StoredFile.{StoredFile}

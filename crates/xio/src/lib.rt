@@ -21,7 +21,7 @@ pub use file_sink::FileSink;
 pub use file_source::FileSource;
 pub use files::{FileFault, Files};
 pub use lists::{Bytes, List, OutOfMemory};
-pub use memory::MemorySink;
+pub use memory::{MemoryFiles, MemorySink};
 pub use read_end::ReadEnd;
 pub use reading::read_all;
 pub use sink::Sink;

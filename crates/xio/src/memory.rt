@@ -2,7 +2,9 @@
 
 mod ask;
 mod calls;
+mod copies;
 mod entry;
+mod files;
 mod numbers;
 mod pieces;
 mod room;
@@ -10,4 +12,5 @@ mod shelf;
 mod sink;
 mod stored_file;
 
+pub use files::MemoryFiles;
 pub use sink::MemorySink;

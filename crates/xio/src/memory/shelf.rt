@@ -1,4 +1,4 @@
-ghost use Rattle.std.specs.Prelude.{◌≡◌, ◌<◌, ◌↔◌, [], ◌++◌, Some, length, drop, position, vec_len, vec_capacity, is_some, IsTrue, IsErr, IfOk, IfSome, OnOk, OnErr};
+ghost use Rattle.std.specs.Prelude.{◌≡◌, ◌+◌, ◌^◌, ◌<◌, ◌↔◌, [], ◌++◌, Some, length, drop, position, vec_len, vec_capacity, is_some, IsTrue, IsErr, IfOk, IfSome, OnOk, OnErr};
 ghost use Rattle.std.specs.Bool.{OnTrue, OnFalse};
 ghost use Rattle.xio.specs.Pieces.{IsFrontOf};
 ghost use Rattle.xio.specs.Shelf.{has_name, file_named, content_of, flushed_of, bad_place_of};
@@ -59,6 +59,7 @@ impl Shelf {
     pub fn piece(&self, name: &[u8], place: u64) -> Result<&[u8], Failed>
         ensures fails { IsErr result ↔ (bad_place_of self.now.files.items name.now ≡ Some place) }
         ensures front { IfOk result (λ piece. IsFrontOf piece.now (drop place (content_of self.now.files.items name.now))) }
+        ensures fits { IfOk result (λ piece. place + length piece.now < 2 ^ 64) }
     {
         let Some(index) = self.index_of(name) else {
             return Ok(&[]);

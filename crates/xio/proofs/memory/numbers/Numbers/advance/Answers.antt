@@ -15,6 +15,6 @@ returns-clause-places c =
     let entries = c.args.self.now.entries.items in
     let held : handle_at entries c.args.file ≢ Closed = λ e. let no : _ = sym c.requires.opened ∙ e in cc in
     let call : call_at entries c.args.file ≡ c.index.result.now.call =
-        part_at-read (λ entry. entry.call) 0 entries c.args.file c.index.result.now (given_below entries c.args.file held) c.index.ensures in
+    part_at-read (λ entry. entry.call) 0 entries c.args.file c.index.result.now (given_below entries c.args.file held) c.index.ensures in
     place_at-moved c.args.self.now.asks.items _ _ c.args.count c.index_mut.result.now _ (sym call) (c.args.self.now.calls_asked c.args.file c.requires.opened)
     c.index_mut.ensures.value refl

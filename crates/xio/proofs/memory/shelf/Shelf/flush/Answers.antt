@@ -14,7 +14,7 @@ returns-in-Some-clause-flushed c =
     let files = c.args.self.now.files.items in
     let at : position (has_name c.args.name.now) files ≡ Some c.in-Some.index = search rules in
     let bytes : c.bytes.result.now ≡ content_of files c.args.name.now =
-        c.bytes.ensures ∙ sym (part_of-reached (λ file. file.room.bytes) [] files c.args.name.now _ _ at c.index_mut-file.ensures.value) in
+    c.bytes.ensures ∙ sym (part_of-reached (λ file. file.room.bytes) [] files c.args.name.now _ _ at c.index_mut-file.ensures.value) in
     part_of-changed (λ file. file.flushed) 0 files c.args.name.now _ c.index_mut-file.result.now _ at c.index_mut-file.ensures.value refl
     ∙ ap (λ n. set_named (flushed_of files) c.args.name.now n) (ap length bytes)
 

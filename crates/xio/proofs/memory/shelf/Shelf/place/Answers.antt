@@ -1,4 +1,4 @@
-use Rattle.std.proofs.Common.{rules, [], ◌≡◌, Some, None, refl, ◌∙◌, sym}
+use Rattle.std.proofs.Common.{rules, [], ◌≡◌, Some, None, refl}
 use Rattle.std.specs.Prelude.{position}
 use Rattle.xio.specs.Shelf.{has_name}
 use Rattle.xio.proofs.ShelfLemmas.{part_of-set, part_of-push, name_same}

@@ -12,9 +12,9 @@ returns-clause-content c = OnTrue_from c.put.result _ (λ put.
     let files = c.args.self.now.files.items in
     let at : position (has_name c.args.name.now) files ≡ Some c.in-Some.index = search rules in
     let old : content_of files c.args.name.now ≡ c.index_mut-file.result.now.room.bytes =
-        part_of-reached (λ file. file.room.bytes) [] files c.args.name.now _ _ at c.index_mut-file.ensures.value in
+    part_of-reached (λ file. file.room.bytes) [] files c.args.name.now _ _ at c.index_mut-file.ensures.value in
     let bytes : c.put.new.self.bytes ≡ content_of files c.args.name.now ++ c.args.piece.now =
-        ap (λ (r : RoomState). r.bytes) (OnTrue_at put c.put.ensures.put) ∙ ap (λ xs. xs ++ c.args.piece.now) (sym old) in
+    ap (λ (r : RoomState). r.bytes) (OnTrue_at put c.put.ensures.put) ∙ ap (λ xs. xs ++ c.args.piece.now) (sym old) in
     part_of-changed (λ file. file.room.bytes) [] files c.args.name.now _ c.index_mut-file.result.now _ at c.index_mut-file.ensures.value refl
     ∙ ap (λ xs. set_named (content_of files) c.args.name.now xs) bytes)
 
