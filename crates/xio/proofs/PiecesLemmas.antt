@@ -12,7 +12,7 @@ use Rattle.xio.specs.declared.memory.stored_file.StoredFile.{StoredFile}
 use Rattle.xio.proofs.SetLemmas.{set_at-same}
 
 -- the first n bytes of the piece, and what is left behind them
-rest-read : (content piece buffer : List ℕ) (place n : ℕ) → IsFrontOf piece (drop place content) → n ≤ length piece → take n buffer ≡ take n piece
+pub rest-read : (content piece buffer : List ℕ) (place n : ℕ) → IsFrontOf piece (drop place content) → n ≤ length piece → take n buffer ≡ take n piece
     → drop place content ≡ take n buffer ++ drop (place + n) content
 rest-read content piece buffer place n front within filled =
     let rest = drop place content in
@@ -20,7 +20,7 @@ rest-read content piece buffer place n front within filled =
     sym (take-append-drop n rest) ∙ ap (λ xs. xs ++ drop n rest) (sym (filled ∙ same)) ∙ ap (λ xs. take n buffer ++ xs) (drop-drop n place content)
 
 -- nothing was read only at the end, or into no room
-end-read : (content piece : List ℕ) (place n room : ℕ) → IsFrontOf piece (drop place content) → n ≡ min room (length piece) → n ≡ 0 → 0 < room → drop place content ≡ []
+pub end-read : (content piece : List ℕ) (place n room : ℕ) → IsFrontOf piece (drop place content) → n ≡ min room (length piece) → n ≡ 0 → 0 < room → drop place content ≡ []
 end-read content piece place n room front count none some = front.some (grind (arith, common_steps))
 
 -- the same of a file that was taken n bytes further

@@ -10,3 +10,4 @@ pub mod Pieces
 pub mod Shelf
 pub mod Numbers
 pub mod MemoryFiles
+pub mod Slot

@@ -22,7 +22,3 @@ handles_of files = handle_at files.numbers.entries.items
 -- whether a file has the name
 abbrev pub has_file : MemoryFiles → List ℕ → Bool
 has_file files name = is_some (file_named files.shelf.files.items name)
-
--- what is told of no files
-abbrev pub told_none : Told
-told_none = record { content = λ _. []; flushed = λ _. 0; asked = []; places = λ _. 0; name_of = λ _. []; call_of = λ _. 0 }

@@ -10,7 +10,9 @@ mod pieces;
 mod room;
 mod shelf;
 mod sink;
+mod source;
 mod stored_file;
 
 pub use files::MemoryFiles;
 pub use sink::MemorySink;
+pub use source::MemorySource;

@@ -1,6 +1,6 @@
 ghost use Rattle.std.specs.Prelude.{◌≡◌, ◌↔◌, true, false, IsTrue, IsSome, IfOk, IfSome, OnOk, OnErr};
 ghost use Rattle.xio.specs.Handles.{Closed};
-ghost use Rattle.xio.specs.Told.{set_named};
+ghost use Rattle.xio.specs.Told.{set_named, told_none};
 
 use crate::failed::Failed;
 use crate::files::{FileFault, Files};
@@ -28,13 +28,15 @@ pub struct MemoryFiles {
 }
 
 impl MemoryFiles {
-    ghost use Rattle.xio.specs.MemoryFiles.{told_by, handles_of, has_file, told_none};
+    ghost use Rattle.xio.specs.MemoryFiles.{told_by, handles_of, has_file};
 
     /// No files. Each made file takes room for `capacity` bytes. `failing` are the calls that are to fail, numbered from 1.
     pub fn new(alloc: Global, capacity: u32, failing: &[u32]) -> Result<Self, OutOfMemory>
         ensures told { IfOk result (λ files. told_by files ≡ told_none) }
         ensures no_files { IfOk result (λ files. (name : _) → has_file files name ≡ false) }
-        ensures handles { IfOk result (λ files. handles_of files ≡ (λ _. Closed)) }
+        ensures no_numbers { IfOk result (λ files. handles_of files ≡ (λ _. Closed)) }
+        ensures no_read_faults { IfOk result (λ files. ⟦<MemoryFiles as Files>⟧.read_faults files ≡ 0) }
+        ensures no_write_faults { IfOk result (λ files. ⟦<MemoryFiles as Files>⟧.write_faults files ≡ 0) }
     {
         Ok(MemoryFiles {
             alloc,
