@@ -1,5 +1,5 @@
 -- What files in memory tell: everything.
-use Rattle.std.specs.Prelude.{ℕ, Bool, List, [], is_some}
+use Rattle.std.specs.Prelude.{ℕ, Bool, List, is_some}
 use Rattle.xio.specs.Handles.{Handle}
 use Rattle.xio.specs.Told.{Told}
 use Rattle.xio.specs.Shelf.{file_named, content_of, flushed_of}

@@ -12,6 +12,8 @@ mod reading;
 mod real;
 mod sink;
 mod source;
+#[cfg(test)]
+mod tests;
 mod whole_file;
 mod write_fault;
 mod writing;
