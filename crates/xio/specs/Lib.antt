@@ -7,3 +7,8 @@ pub mod Told
 pub mod Lent
 pub mod ReadFile
 pub mod Room
+pub mod Pieces
+pub mod Shelf
+pub mod Numbers
+pub mod MemoryFiles
+pub mod Slot

@@ -19,6 +19,10 @@ pub record Told : Type 0 where
   -- by opened number: its call
   pub call_of : ℕ → ℕ
 
+-- what is told of no files
+abbrev pub told_none : Told
+told_none = record { content = λ _. []; flushed = λ _. 0; asked = []; places = λ _. 0; name_of = λ _. []; call_of = λ _. 0 }
+
 -- f with v at this name
 abbrev pub set_named : {V : Type 0} → (List ℕ → V) → List ℕ → V → List ℕ → V
 set_named f name v other = if pointwise nat_eq other name then v else f other
