@@ -18,3 +18,21 @@ pub fn headers(frame: &[u8]) -> Result<Headers, Short>
         ether_type: BigEndian::read_u16(&frame[12..]),
     })
 }
+
+#[cfg(test)]
+mod tests {
+    use super::*;
+
+    #[test]
+    fn reads_a_header(rt: HostRuntime) {
+        // to 02:00:00:00:00:01, from 02:00:00:00:00:02, a type for local experiments
+        let frame = [2, 0, 0, 0, 0, 1, 2, 0, 0, 0, 0, 2, 0x88, 0xB5];
+        let header = Headers {
+            source: 0x0200_0000_0002,
+            target: 0x0200_0000_0001,
+            ether_type: 0x88B5,
+        };
+        assert_eq!(rt; headers(&frame), Ok(header));
+        assert_eq!(rt; headers(&frame[..13]), Err(Short));
+    }
+}

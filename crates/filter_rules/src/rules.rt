@@ -134,3 +134,70 @@ fn asked(rows: &[RuleRow], key: RuleKey, flag: u8) -> Option<RuleRow>
 {
     rows.iter().copied().find(|row| row.answers(key, flag))
 }
+
+#[cfg(test)]
+mod tests {
+    use super::*;
+    use crate::rule::RuleKind;
+    use std::test::Fail;
+    use xio::Action;
+
+    #[test]
+    fn adds_flags_to_the_row_of_a_key(rt: HostRuntime) -> Result<(), Fail> {
+        let key = RuleKey::ether(0x0200_0000_0001);
+        let other = RuleKey {
+            kind: RuleKind::Port,
+            value: 0x0200_0000_0001,
+        };
+        let mut rules = Rules::new(rt.alloc())?;
+        assert_eq!(rt; rules.len(), 0);
+        assert_eq!(rt; rules.add(key, 1, 7), Ok(7));
+        assert_eq!(rt; rules.add(key, 2, 8), Ok(7));
+        assert!(rt; !rules.contains(other));
+        assert_eq!(rt; rules.add(other, RuleKind::Port.all_flags(), 9), Ok(9));
+        assert_eq!(rt; rules.len(), 2);
+        assert_eq!(rt;
+            rules.row(0),
+            RuleRow {
+                key,
+                flags: 3,
+                number: 7
+            }
+        );
+        assert_eq!(rt;
+            rules.row(1),
+            RuleRow {
+                key: other,
+                flags: 15,
+                number: 9
+            }
+        );
+        assert!(rt; rules.contains(key));
+        Ok(())
+    }
+
+    #[test]
+    fn finds_the_target_of_a_row(rt: HostRuntime) -> Result<(), Fail> {
+        let mut rules = Rules::new(rt.alloc())?;
+        assert_eq!(rt; rules.add(RuleKey::ether(1), TARGET, 5), Ok(5));
+        let named = |action| FilterEnd::Hit { rule: 5, action };
+        let missed = |action| FilterEnd::Miss { action };
+        // source, target, policy, features
+        let rows = [
+            (2, 1, Policy::Allow, ETHERNET, named(Action::Drop)),
+            (2, 1, Policy::Deny, ETHERNET, named(Action::Pass)),
+            (1, 2, Policy::Allow, ETHERNET, missed(Action::Pass)),
+            (1, 2, Policy::Deny, ETHERNET, missed(Action::Drop)),
+            (2, 1, Policy::Allow, 15, missed(Action::Pass)),
+        ];
+        for (source, target, policy, features, want) in rows {
+            let header = Headers {
+                source,
+                target,
+                ether_type: 0x88B5,
+            };
+            assert_eq!(rt; rules.verdict(&header, policy, features), want);
+        }
+        Ok(())
+    }
+}

@@ -71,3 +71,49 @@ fn named(interfaces: &[Interface], name: &[u8]) -> Option<usize>
         .iter()
         .position(|interface| interface.name.as_slice() == name)
 }
+
+#[cfg(test)]
+mod tests {
+    use super::*;
+    use std::test::Fail;
+
+    #[test]
+    fn asks_for_a_filter_and_a_rule(rt: HostRuntime) -> Result<(), Fail> {
+        let mut name = Bytes::new(rt.alloc());
+        name.append(b"eth0")?;
+        let mut interfaces = InterfaceList::new(rt.alloc());
+        interfaces.push(Interface { name, queues: 1 })?;
+        let mode = Mode::Skb;
+        let policy = Policy::Deny;
+        for (asked, interface) in [(b"eth0", 0), (b"eth1", 1)] {
+            let mut name = Bytes::new(rt.alloc());
+            name.append(asked)?;
+            let load = Command::FilterLoad {
+                interface: name,
+                mode,
+                policy,
+                features: 16,
+            };
+            let attach = Change::Attach {
+                interface,
+                kind: Kind::Filter {
+                    policy,
+                    features: 16,
+                },
+                priority: 10,
+                rank: 0,
+                mask: 4,
+                mode,
+            };
+            assert_eq!(rt; load.wanted(&interfaces), attach);
+        }
+        let key = RuleKey::ether(0x0200_0000_0001);
+        let rule = Command::FilterRule {
+            key,
+            flags: 3,
+            remove: false,
+        };
+        assert_eq!(rt; rule.wanted(&interfaces), Change::SetRule { key, flags: 3 });
+        Ok(())
+    }
+}

@@ -168,3 +168,51 @@ fn visit(rules: &Rules, frame: &[u8], member: &Attachment) -> Visit
         },
     }
 }
+
+#[cfg(test)]
+mod tests {
+    use super::*;
+    use crate::attachment::Mode;
+    use crate::change::Change;
+    use filter_rules::{Policy, RuleKey};
+    use std::test::Fail;
+
+    #[test]
+    fn drops_the_frame_that_a_rule_names(rt: HostRuntime) -> Result<(), Fail> {
+        let mut state = State::new(rt.alloc())?;
+        state.absorb(&Change::Attach {
+            interface: 3,
+            kind: Kind::Filter {
+                policy: Policy::Allow,
+                features: 16,
+            },
+            priority: 10,
+            rank: 0,
+            mask: 4,
+            mode: Mode::Native,
+        });
+        state.absorb(&Change::SetRule {
+            key: RuleKey::ether(0x0200_0000_0001),
+            flags: 2,
+        });
+        // the last byte of the target, and what becomes of the frame
+        let rows = [(1, Action::Drop, Some(2)), (3, Action::Pass, None)];
+        let mut own = Own::new(rt.alloc(), 3)?;
+        for (last, action, rule) in rows {
+            let frame = [2, 0, 0, 0, 0, last, 2, 0, 0, 0, 0, 2, 0x88, 0xB5];
+            own.prepare(&state)?;
+            traverse(&state, &mut own, &frame);
+            assert_eq!(rt; own.verdict(), action);
+            let trip = own.trip(rt.alloc())?;
+            let visit = Visit {
+                number: 1,
+                action,
+                rule,
+            };
+            assert_eq!(rt; trip.visits.as_slice(), [visit].as_slice());
+            assert_eq!(rt; trip.verdict, action);
+            assert_eq!(rt; trip.frame.as_slice(), frame.as_slice());
+        }
+        Ok(())
+    }
+}

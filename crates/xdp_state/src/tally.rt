@@ -62,3 +62,22 @@ fn raise_all(sums: &mut [u64; 5], by: &[u64; 5])
         sums[place] = sums[place].saturating_add(by[place]);
     }
 }
+
+#[cfg(test)]
+mod tests {
+    use super::*;
+
+    #[test]
+    fn counts_by_verdict(rt: HostRuntime) {
+        let mut tally = Tally::new();
+        tally.add(Action::Drop, 14);
+        tally.add(Action::Pass, 60);
+        let mut other = Tally::new();
+        other.add(Action::Pass, 14);
+        other.add(Action::Redirect, u64::MAX);
+        tally.merge(&other);
+        tally.add(Action::Redirect, 1);
+        assert_eq!(rt; tally.packets, [0, 1, 2, 0, 2]);
+        assert_eq!(rt; tally.bytes, [0, 14, 74, 0, u64::MAX]);
+    }
+}
