@@ -1,0 +1,6 @@
+pub mod Addresses
+pub mod Frames
+pub mod Names
+pub mod Script
+pub mod Texts
+pub mod Words
