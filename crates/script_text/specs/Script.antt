@@ -1,5 +1,5 @@
 -- What a script says.
-use Rattle.std.specs.Prelude.{◌≡◌, ℕ, ◌+◌, ◌==◌, ◌&&◌, ◌||◌, Bool, false, nat_lt, nat_le, List, [], ◌∷◌, ◌++◌, length, codes, Result, Ok, Err, ok_or, if◌then◌else◌, ⊤}
+use Rattle.std.specs.Prelude.{◌≡◌, ℕ, ◌+◌, ◌==◌, ◌&&◌, ◌||◌, Bool, true, false, nat_lt, nat_le, List, [], ◌∷◌, ◌++◌, length, codes, Result, Ok, Err, ok_or, if◌then◌else◌, ⊤}
 use Rattle.std.specs.List.{list_any}
 use Rattle.std.specs.Option.{option_map}
 use Rattle.std.specs.Str.{bytes_eq}
@@ -7,7 +7,6 @@ use Rattle.std.specs.Str.Lines.{lines}
 use Rattle.filter_rules.specs.declared.policy.Policy.TheVariants.{Allow}
 use Rattle.filter_rules.specs.declared.rule.RuleKind.TheVariants.{Ether}
 use Rattle.xdp_state.specs.declared.attachment.Mode.TheVariants.{Native}
-use Rattle.xdp_state.specs.declared.command.Command.{Command}
 use Rattle.xdp_state.specs.declared.command.Command.TheVariants.{FilterLoad, FilterRule}
 use Rattle.xdp_state.specs.declared.interface.Interface.{Interface}
 use Rattle.script_text.specs.Addresses.{address_of}
@@ -40,15 +39,19 @@ interface_line number (name ∷ queues ∷ []) =
     else Err 2
 interface_line number _ = Err 2
 
--- a rule on the target address
-abbrev pub ether_rule : ℕ → Command
-ether_rule address = FilterRule (record { kind = Ether; value = address }) 2 false
+-- all features are 31
+abbrev pub filter_load : List ℕ → What
+filter_load interface = what.Command (FilterLoad interface Native Allow 31)
 
--- `xdp-filter load NAME` on the second line, `xdp-filter ether ADDRESS` on the third; all features are 31
-abbrev pub filter_line : List Interface → ℕ → List (List ℕ) → Result Command ℕ
+-- a rule on the target address, whose flag is 2
+abbrev pub ether_rule : ℕ → What
+ether_rule address = what.Command (FilterRule (record { kind = Ether; value = address }) 2 false)
+
+-- `xdp-filter load NAME` on the second line, `xdp-filter ether ADDRESS` on the third
+abbrev pub filter_line : List Interface → ℕ → List (List ℕ) → Result What ℕ
 filter_line interfaces number (verb ∷ object ∷ []) =
-    if bytes_eq verb (codes "load") then (if (number == 2) && is_declared interfaces object then Ok (FilterLoad object Native Allow 31) else Err 2)
-    else if bytes_eq verb (codes "ether") then (if number == 3 then ok_or (option_map ether_rule (address_of object)) 2 else Err 2)
+    if (number == 2) && bytes_eq verb (codes "load") && is_declared interfaces object then Ok (filter_load object)
+    else if (number == 3) && bytes_eq verb (codes "ether") then ok_or (option_map ether_rule (address_of object)) 2
     else Err 2
 filter_line interfaces number _ = Err 2
 
@@ -61,19 +64,19 @@ packet_line interfaces number (name ∷ queue ∷ frame ∷ []) =
 packet_line interfaces number _ = Err 2
 
 -- the script with one more interface, and with one more line
-abbrev pub with_interface : Script → Interface → Script
-with_interface script interface = record script { interfaces = script.interfaces ++ interface ∷ [] }
+abbrev pub with_interface : Script → Interface → Result Script ℕ
+with_interface script interface = Ok (record script { interfaces = script.interfaces ++ interface ∷ [] })
 
-abbrev pub with_line : Script → ℕ → What → Script
-with_line script number what = record script { lines = script.lines ++ record { line = number; what = what } ∷ [] }
+abbrev pub with_line : Script → ℕ → What → Result Script ℕ
+with_line script number what = Ok (record script { lines = script.lines ++ record { line = number; what = what } ∷ [] })
 
 -- the script with what the line of the number says
 abbrev pub read_line : Script → ℕ → List (List ℕ) → Result Script ℕ
 read_line script number [] = Err 2
 read_line script number (command ∷ words) =
-    if bytes_eq command (codes "interface") then interface_line number words >>= λ interface. Ok (with_interface script interface)
-    else if bytes_eq command (codes "xdp-filter") then filter_line script.interfaces number words >>= λ command. Ok (with_line script number (what.Command command))
-    else if bytes_eq command (codes "packet") then packet_line script.interfaces number words >>= λ packet. Ok (with_line script number packet)
+    if bytes_eq command (codes "interface") then interface_line number words >>= with_interface script
+    else if bytes_eq command (codes "xdp-filter") then filter_line script.interfaces number words >>= with_line script number
+    else if bytes_eq command (codes "packet") then packet_line script.interfaces number words >>= with_line script number
     else Err 2
 
 -- What is answered is the reading that is wanted; only want of memory is free.

@@ -7,11 +7,8 @@ use std::alloc::Global;
 use xio::{Bytes, OutOfMemory};
 
 const SHORTEST: usize = 14;
-const LONGEST: usize = 15_872;
 
-fn has_unread_type(frame: &[u8]) -> bool {
-    matches!(BigEndian::read_u16(&frame[12..]), 0x8100 | 0x88a8 | 0x0800 | 0x86dd)
-}
+const LONGEST: usize = 15_872;
 
 /// Whether bytes are a frame that packets may have.
 fn is_frame(bytes: &[u8]) -> bool
@@ -20,7 +17,10 @@ fn is_frame(bytes: &[u8]) -> bool
     if bytes.len() < SHORTEST || bytes.len() > LONGEST {
         return false;
     }
-    !matches!(BigEndian::read_u16(&bytes[12..]), 0x8100 | 0x88a8 | 0x0800 | 0x86dd)
+    !matches!(
+        BigEndian::read_u16(&bytes[12..]),
+        0x8100 | 0x88a8 | 0x0800 | 0x86dd
+    )
 }
 
 /// The frame of a word of hexadecimal digits, where it is one. Memory is taken only for a word of a frame's length.

@@ -17,3 +17,6 @@ pub use outcome::{Outcome, end_text, outcome_text};
 pub use processor::processor_line;
 pub use script::{Script, ScriptEnd, read_script};
 pub use what::{Line, LineList, What};
+
+#[cfg(test)]
+mod tests;

@@ -6,7 +6,10 @@ ghost use Rattle.std.specs.Str.Lines.{lines, strip_carriage_return};
 fn line_end(bytes: &[u8]) -> usize
     ensures { result ≡ position_or_len (λ b. b == 10) bytes.now }
 {
-    bytes.iter().position(|b| *b == b'\n').unwrap_or(bytes.len())
+    bytes
+        .iter()
+        .position(|b| *b == b'\n')
+        .unwrap_or(bytes.len())
 }
 
 /// A line that ended with a line feed, without the carriage return before it.

@@ -19,8 +19,14 @@ pub fn outcome_text(alloc: Global, line: u32, outcome: &Outcome) -> Result<Bytes
     ensures { IfOk result (λ text. text ≡ outcome_text line outcome.now) }
 {
     match outcome {
-        Outcome::Ok(number) => bytes_of(alloc, format!(in alloc; "{line} ok {number}\n")?.as_bytes()),
-        Outcome::Handed { packets } => bytes_of(alloc, format!(in alloc; "{line} handed {packets}\n")?.as_bytes()),
+        Outcome::Ok(number) => bytes_of(
+            alloc,
+            format!(in alloc; "{line} ok {number}\n")?.as_bytes(),
+        ),
+        Outcome::Handed { packets } => bytes_of(
+            alloc,
+            format!(in alloc; "{line} handed {packets}\n")?.as_bytes(),
+        ),
     }
 }
 

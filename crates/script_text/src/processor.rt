@@ -1,4 +1,4 @@
-ghost use Rattle.std.specs.Prelude.{◌≡◌, IfOk, sum, List, ℕ, ◌++◌};
+ghost use Rattle.std.specs.Prelude.{◌≡◌, IfOk, sum, string_bytes};
 ghost use Rattle.script_text.specs.Texts.{processor_line, tally_text};
 
 use std::alloc::{AllocError, Global};
@@ -6,20 +6,26 @@ use xdp_state::Tally;
 use xio::{Bytes, OutOfMemory};
 
 /// The sum of the five actions' numbers.
-fn total(numbers: [u64; 5]) -> u128
-    ensures { result ≡ sum numbers.entry }
+fn total(numbers: &[u64; 5]) -> u128
+    ensures { result ≡ sum numbers.now }
 {
-    let [aborted, drop, pass, tx, redirect] = numbers;
-    u128::from(aborted) + u128::from(drop) + u128::from(pass) + u128::from(tx) + u128::from(redirect)
+    let [aborted, drop, pass, tx, redirect] = *numbers;
+    u128::from(aborted)
+        + u128::from(drop)
+        + u128::from(pass)
+        + u128::from(tx)
+        + u128::from(redirect)
 }
 
 fn tally_text(alloc: Global, tally: &Tally) -> Result<String, AllocError>
     ensures { IfOk result (λ text. string_bytes text ≡ tally_text tally.now) }
 {
-    let packets = total(tally.packets);
-    let bytes = total(tally.bytes);
+    let packets = total(&tally.packets);
+    let bytes = total(&tally.bytes);
     let [aborted, drop, pass, tx, redirect] = tally.packets;
-    format!(in alloc; " packets {packets} bytes {bytes} aborted {aborted} drop {drop} pass {pass} tx {tx} redirect {redirect}\n")
+    format!(in alloc;
+        " packets {packets} bytes {bytes} aborted {aborted} drop {drop} pass {pass} tx {tx} redirect {redirect}\n"
+    )
 }
 
 /// What is printed of a processor, which serves a queue of an interface, at a phase's end.

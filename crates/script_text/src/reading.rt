@@ -43,7 +43,9 @@ const TARGET: u8 = 2;
 fn is_declared(interfaces: &[Interface], name: &[u8]) -> bool
     ensures { result ≡ is_declared interfaces.now name.now }
 {
-    interfaces.iter().any(|interface| interface.name.as_slice() == name)
+    interfaces
+        .iter()
+        .any(|interface| interface.name.as_slice() == name)
 }
 
 /// Reads `NAME 1`.
@@ -74,7 +76,7 @@ fn filter_line(
     interfaces: &[Interface],
     number: u32,
     words: &[u8],
-) -> Result<Command, LineEnd>
+) -> Result<What, LineEnd>
     ensures { Reads result (filter_line interfaces.now number (words_of words.now)) }
 {
     let Some((verb, behind)) = next_word(words) else {
@@ -86,21 +88,21 @@ fn filter_line(
     if next_word(behind).is_some() {
         return Err(BAD_FORM);
     }
-    if verb == b"load".as_slice() && number == 2 && is_declared(interfaces, object) {
-        return Ok(Command::FilterLoad {
+    if number == 2 && verb == b"load".as_slice() && is_declared(interfaces, object) {
+        return Ok(What::Command(Command::FilterLoad {
             interface: bytes_of(alloc, object)?,
             mode: Mode::Native,
             policy: Policy::Allow,
             features: ALL_FEATURES,
-        });
+        }));
     }
-    if verb == b"ether".as_slice() && number == 3 {
+    if number == 3 && verb == b"ether".as_slice() {
         if let Some(address) = address(object) {
-            return Ok(Command::FilterRule {
+            return Ok(What::Command(Command::FilterRule {
                 key: RuleKey::ether(address),
                 flags: TARGET,
                 remove: false,
-            });
+            }));
         }
     }
     Err(BAD_FORM)
@@ -131,7 +133,10 @@ fn packet_line(
         return Err(BAD_FORM);
     }
     match frame(alloc, digits)? {
-        Some(frame) => Ok(What::Packet { processor: 0, frame }),
+        Some(frame) => Ok(What::Packet {
+            processor: 0,
+            frame,
+        }),
         None => Err(BAD_FORM),
     }
 }
@@ -154,7 +159,7 @@ pub fn read_line(
         return Ok(script);
     }
     let what = if command == b"xdp-filter".as_slice() {
-        What::Command(filter_line(alloc, script.interfaces.as_slice(), number, words)?)
+        filter_line(alloc, script.interfaces.as_slice(), number, words)?
     } else if command == b"packet".as_slice() {
         packet_line(alloc, script.interfaces.as_slice(), number, words)?
     } else {

@@ -12,7 +12,9 @@ fn is_blank(b: u8) -> bool
 fn blanks_in_front(line: &[u8]) -> usize
     ensures { result ≡ prefix_len is_blank line.now }
 {
-    line.iter().position(|b| !is_blank(*b)).unwrap_or(line.len())
+    line.iter()
+        .position(|b| !is_blank(*b))
+        .unwrap_or(line.len())
 }
 
 /// The place of the first blank, or the length where there is none.
