@@ -14,19 +14,26 @@ outcome_text line (Handed packets) = decimal line ++ (codes " handed " ++ (decim
 abbrev pub end_text : ℕ → List ℕ
 end_text count = codes "end " ++ (decimal count ++ codes "\n")
 
--- a number with its name in front
-abbrev pub counted : List ℕ → ℕ → List ℕ
-counted name count = codes " " ++ (name ++ (codes " " ++ decimal count))
+-- which processor it is, and which queue of an interface it serves
+abbrev pub place_text : ℕ → List ℕ
+place_text processor = codes "  cpu " ++ (decimal processor ++ codes " ")
 
--- the packets and the bytes of all five actions, and the packets of each
-abbrev pub tally_text : Tally → List ℕ
-tally_text tally =
-    codes " packets " ++ (decimal (sum tally.packets) ++ (codes " bytes " ++ (decimal (sum tally.bytes)
-    ++ (codes " aborted " ++ (decimal (slice_index tally.packets 0) ++ (codes " drop " ++ (decimal (slice_index tally.packets 1)
-    ++ (codes " pass " ++ (decimal (slice_index tally.packets 2) ++ (codes " tx " ++ (decimal (slice_index tally.packets 3)
-    ++ (codes " redirect " ++ (decimal (slice_index tally.packets 4) ++ codes "\n")))))))))))))
+abbrev pub queue_text : ℕ → List ℕ
+queue_text queue = codes "/" ++ decimal queue
 
--- what a processor, which serves one queue of an interface, has carried
+-- the packets and the bytes of all five actions
+abbrev pub totals_text : Tally → List ℕ
+totals_text tally =
+    codes " packets " ++ (decimal (sum tally.packets) ++ (codes " bytes " ++ decimal (sum tally.bytes)))
+
+-- the packets of each action
+abbrev pub actions_text : List ℕ → List ℕ
+actions_text packets =
+    codes " aborted " ++ (decimal (slice_index packets 0) ++ (codes " drop " ++ (decimal (slice_index packets 1)
+    ++ (codes " pass " ++ (decimal (slice_index packets 2) ++ (codes " tx " ++ (decimal (slice_index packets 3)
+    ++ (codes " redirect " ++ (decimal (slice_index packets 4) ++ codes "\n")))))))))
+
+-- what a processor, which serves a queue of an interface, has carried
 abbrev pub processor_line : ℕ → List ℕ → ℕ → Tally → List ℕ
 processor_line processor interface queue tally =
-    (codes "  cpu " ++ (decimal processor ++ codes " ")) ++ (interface ++ (codes "/" ++ (decimal queue ++ tally_text tally)))
+    place_text processor ++ interface ++ queue_text queue ++ totals_text tally ++ actions_text tally.packets

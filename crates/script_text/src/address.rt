@@ -1,6 +1,6 @@
-ghost use Rattle.std.specs.Prelude.{◌≡◌};
+ghost use Rattle.std.specs.Prelude.{◌≡◌, ◌≢◌, [], ◌∷◌, length, Some, IfSome, IfNone, option_map};
 ghost use Rattle.hex.specs.Hex.{hex_digit_value};
-ghost use Rattle.script_text.specs.Addresses.{octet_of, address_of};
+ghost use Rattle.script_text.specs.Addresses.{octet_of, octets_of, address_of};
 
 use byteorder::{BigEndian, ByteOrder};
 
@@ -23,6 +23,29 @@ fn octet(high: u8, low: u8) -> Option<u8>
     Some(16 * high + low)
 }
 
+/// The octet in front of a colon, and what stands behind the colon.
+fn split_octet(text: &[u8]) -> Option<(u8, &[u8])>
+    ensures found { IfSome result (λ split. octets_of text.now ≡ option_map (λ more. split.0 ∷ more) (octets_of split.1.now)) }
+    ensures none { IfNone result (IfSome (octets_of text.now) (λ octets. length octets ≡ 1)) }
+{
+    let [high, low, b':', behind @ ..] = text else {
+        return None;
+    };
+    let octet = octet(*high, *low)?;
+    Some((octet, behind))
+}
+
+/// The octet of a text that is no more than that.
+fn only_octet(text: &[u8]) -> Option<u8>
+    ensures found { IfSome result (λ octet. octets_of text.now ≡ Some (octet ∷ [])) }
+    ensures none { IfNone result (IfSome (octets_of text.now) (λ octets. length octets ≢ 1)) }
+{
+    let [high, low] = text else {
+        return None;
+    };
+    octet(*high, *low)
+}
+
 /// The number of an Ethernet address, six pairs of hexadecimal digits with colons between; its first byte is the highest.
 pub fn address(word: &[u8]) -> Option<u64>
     ensures { result ≡ address_of word.now }
@@ -30,15 +53,10 @@ pub fn address(word: &[u8]) -> Option<u64>
     let mut octets = [0; 6];
     let mut rest = word;
     for place in 0..5 {
-        let [high, low, b':', behind @ ..] = rest else {
-            return None;
-        };
-        octets[place] = octet(*high, *low)?;
+        let (octet, behind) = split_octet(rest)?;
+        octets[place] = octet;
         rest = behind;
     }
-    let [high, low] = rest else {
-        return None;
-    };
-    octets[5] = octet(*high, *low)?;
+    octets[5] = only_octet(rest)?;
     Some(BigEndian::read_u48(&octets))
 }

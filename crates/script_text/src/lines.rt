@@ -1,15 +1,11 @@
-ghost use Rattle.std.specs.Prelude.{◌≡◌, ℕ, ◌<◌, ◌==◌, nat_lt, [], ◌∷◌, length, IfSome, MatchOption};
-ghost use Rattle.std.specs.List.{position_or_len};
+ghost use Rattle.std.specs.Prelude.{◌≡◌, ℕ, ◌<◌, ◌==◌, nat_lt, [], ◌∷◌, length, position, IfSome, MatchOption};
 ghost use Rattle.std.specs.Str.Lines.{lines, strip_carriage_return};
 
-/// The place of the first line feed, or the length where there is none.
-fn line_end(bytes: &[u8]) -> usize
-    ensures { result ≡ position_or_len (λ b. b == 10) bytes.now }
+/// The place of the first line feed.
+fn line_feed(bytes: &[u8]) -> Option<usize>
+    ensures { result ≡ position (λ b. b == 10) bytes.now }
 {
-    bytes
-        .iter()
-        .position(|b| *b == b'\n')
-        .unwrap_or(bytes.len())
+    bytes.iter().position(|b| *b == b'\n')
 }
 
 /// A line that ended with a line feed, without the carriage return before it.
@@ -23,6 +19,7 @@ fn without_return(line: &[u8]) -> &[u8]
 }
 
 /// The first line and the bytes behind it, where there is a line.
+#[tactic(auto, using(crate::proofs::LineLemmas::lines_feed, crate::proofs::LineLemmas::lines_no_feed))]
 pub fn split_line(bytes: &[u8]) -> Option<(&[u8], &[u8])>
     ensures lines { MatchOption result (lines bytes.now ≡ []) (λ split. lines bytes.now ≡ split.0.now ∷ lines split.1.now) }
     ensures shorter { IfSome result (λ split. length split.1.now < length bytes.now) }
@@ -30,11 +27,10 @@ pub fn split_line(bytes: &[u8]) -> Option<(&[u8], &[u8])>
     if bytes.is_empty() {
         return None;
     }
-    let end = line_end(bytes);
-    if end == bytes.len() {
-        return Some((bytes, &[]));
+    match line_feed(bytes) {
+        Some(end) => Some((without_return(&bytes[..end]), &bytes[end + 1..])),
+        None => Some((bytes, &[])),
     }
-    Some((without_return(&bytes[..end]), &bytes[end + 1..]))
 }
 
 /// Whether there are more lines than the limit.

@@ -1,5 +1,5 @@
 ghost use Rattle.std.specs.Prelude.{◌≡◌, IfOk, sum, string_bytes};
-ghost use Rattle.script_text.specs.Texts.{processor_line, tally_text};
+ghost use Rattle.script_text.specs.Texts.{processor_line, place_text, queue_text, totals_text, actions_text};
 
 use std::alloc::{AllocError, Global};
 use xdp_state::Tally;
@@ -17,18 +17,34 @@ fn total(numbers: &[u64; 5]) -> u128
         + u128::from(redirect)
 }
 
-fn tally_text(alloc: Global, tally: &Tally) -> Result<String, AllocError>
-    ensures { IfOk result (λ text. string_bytes text ≡ tally_text tally.now) }
+fn place_text(alloc: Global, processor: u32) -> Result<String, AllocError>
+    ensures { IfOk result (λ text. string_bytes text ≡ place_text processor) }
+{
+    format!(in alloc; "  cpu {processor} ")
+}
+
+fn queue_text(alloc: Global, queue: u32) -> Result<String, AllocError>
+    ensures { IfOk result (λ text. string_bytes text ≡ queue_text queue) }
+{
+    format!(in alloc; "/{queue}")
+}
+
+fn totals_text(alloc: Global, tally: &Tally) -> Result<String, AllocError>
+    ensures { IfOk result (λ text. string_bytes text ≡ totals_text tally.now) }
 {
     let packets = total(&tally.packets);
     let bytes = total(&tally.bytes);
-    let [aborted, drop, pass, tx, redirect] = tally.packets;
-    format!(in alloc;
-        " packets {packets} bytes {bytes} aborted {aborted} drop {drop} pass {pass} tx {tx} redirect {redirect}\n"
-    )
+    format!(in alloc; " packets {packets} bytes {bytes}")
 }
 
-/// What is printed of a processor, which serves a queue of an interface, at a phase's end.
+fn actions_text(alloc: Global, packets: &[u64; 5]) -> Result<String, AllocError>
+    ensures { IfOk result (λ text. string_bytes text ≡ actions_text packets.now) }
+{
+    let [aborted, drop, pass, tx, redirect] = *packets;
+    format!(in alloc; " aborted {aborted} drop {drop} pass {pass} tx {tx} redirect {redirect}\n")
+}
+
+/// What is printed of a processor, which serves a queue of an interface.
 pub fn processor_line(
     alloc: Global,
     processor: u32,
@@ -39,9 +55,10 @@ pub fn processor_line(
     ensures { IfOk result (λ text. text ≡ processor_line processor interface.now queue tally.now) }
 {
     let mut line = Bytes::new(alloc);
-    line.append(format!(in alloc; "  cpu {processor} ")?.as_bytes())?;
+    line.append(place_text(alloc, processor)?.as_bytes())?;
     line.append(interface)?;
-    line.append(format!(in alloc; "/{queue}")?.as_bytes())?;
-    line.append(tally_text(alloc, tally)?.as_bytes())?;
+    line.append(queue_text(alloc, queue)?.as_bytes())?;
+    line.append(totals_text(alloc, tally)?.as_bytes())?;
+    line.append(actions_text(alloc, &tally.packets)?.as_bytes())?;
     Ok(line)
 }

@@ -1,5 +1,4 @@
-ghost use Rattle.std.specs.Prelude.{◌≡◌, [], ◌∷◌, MatchOption};
-ghost use Rattle.std.specs.List.{position_or_len, prefix_len};
+ghost use Rattle.std.specs.Prelude.{◌≡◌, not, [], ◌∷◌, position, MatchOption};
 ghost use Rattle.script_text.specs.Words.{is_blank, words_of};
 
 fn is_blank(b: u8) -> bool
@@ -8,30 +7,29 @@ fn is_blank(b: u8) -> bool
     b == b' ' || b == b'\t'
 }
 
-/// How many blanks a line begins with.
-fn blanks_in_front(line: &[u8]) -> usize
-    ensures { result ≡ prefix_len is_blank line.now }
+fn word_start(line: &[u8]) -> Option<usize>
+    ensures { result ≡ position (λ b. not (is_blank b)) line.now }
 {
-    line.iter()
-        .position(|b| !is_blank(*b))
-        .unwrap_or(line.len())
+    line.iter().position(|b| !is_blank(*b))
 }
 
-/// The place of the first blank, or the length where there is none.
-fn word_end(line: &[u8]) -> usize
-    ensures { result ≡ position_or_len is_blank line.now }
+fn word_end(line: &[u8]) -> Option<usize>
+    ensures { result ≡ position is_blank line.now }
 {
-    line.iter().position(|b| is_blank(*b)).unwrap_or(line.len())
+    line.iter().position(|b| is_blank(*b))
 }
 
+#[tactic(auto, using(crate::proofs::WordLemmas::words_of_blanks))]
 /// The first word of a line and what stands behind it, where there is a word.
 pub fn next_word(line: &[u8]) -> Option<(&[u8], &[u8])>
     ensures { MatchOption result (words_of line.now ≡ []) (λ split. words_of line.now ≡ split.0.now ∷ words_of split.1.now) }
 {
-    let line = &line[blanks_in_front(line)..];
-    let end = word_end(line);
-    if end == 0 {
+    let Some(start) = word_start(line) else {
         return None;
+    };
+    let word = &line[start..];
+    match word_end(word) {
+        Some(end) => Some((&word[..end], &word[end..])),
+        None => Some((word, &[])),
     }
-    Some((&line[..end], &line[end..]))
 }
