@@ -32,8 +32,7 @@ lines_feed bytes n found =
     let place = cond_some _ _ n found in
     let before : position_or_len is_feed bytes < length bytes = grind (arith, place) in
     let parts : slice_split is_feed bytes ≡ take n bytes ∷ slice_split is_feed (drop (n + 1) bytes) =
-        subst (λ (m : ℕ). slice_split is_feed bytes ≡ take m bytes ∷ slice_split is_feed (drop (m + 1) bytes)) place.1 (slice_split_first is_feed bytes 0 before) in
-    (
+    subst (λ (m : ℕ). slice_split is_feed bytes ≡ take m bytes ∷ slice_split is_feed (drop (m + 1) bytes)) place.1 (slice_split_first is_feed bytes 0 before) in (
       grind (arith, place),
       ap lines_of_parts parts ∙ lines_of_parts-cons (take n bytes) _ (omega (arith, length-slice_split is_feed (drop (n + 1) bytes))),
     )

@@ -67,8 +67,8 @@ words_of_front b line n inked found =
     let some : 0 < n = grind (arith, place) in
     let before : position_or_len is_blank (b ∷ line) < length (b ∷ line) = grind (arith, place) in
     let parts : slice_split is_blank (b ∷ line) ≡ take n (b ∷ line) ∷ slice_split is_blank (drop (n + 1) (b ∷ line)) =
-        subst (λ (m : ℕ). slice_split is_blank (b ∷ line) ≡ take m (b ∷ line) ∷ slice_split is_blank (drop (m + 1) (b ∷ line))) place.1
-            (slice_split_first is_blank (b ∷ line) 0 before) in
+    subst (λ (m : ℕ). slice_split is_blank (b ∷ line) ≡ take m (b ∷ line) ∷ slice_split is_blank (drop (m + 1) (b ∷ line))) place.1
+    (slice_split_first is_blank (b ∷ line) 0 before) in
     let full : 0 < length (take n (b ∷ line)) = omega (arith, length-take-le n (b ∷ line) (omega arith)) in
     ap words_among parts ∙ words_among-cons (take n (b ∷ line)) (slice_split is_blank (drop (n + 1) (b ∷ line))) full
     ∙ ap (λ words. take n (b ∷ line) ∷ words) (sym (words_of_rest (b ∷ line) n within place.1))
