@@ -1,6 +1,7 @@
 pub mod Addresses
 pub mod Frames
 pub mod Names
+pub mod Reading
 pub mod Script
 pub mod Texts
 pub mod Words

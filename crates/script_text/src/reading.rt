@@ -1,5 +1,6 @@
 ghost use Rattle.std.specs.Prelude.{◌≡◌};
-ghost use Rattle.script_text.specs.Script.{is_declared, interface_line, filter_line, packet_line, read_line, Reads};
+ghost use Rattle.script_text.specs.Reading.{Reads};
+ghost use Rattle.script_text.specs.Script.{is_declared, interface_line, filter_line, packet_line, read_line};
 ghost use Rattle.script_text.specs.Words.{words_of};
 ghost use Rattle.script_text.specs.declared.reading.LineEnd.{LineEnd};
 ghost use Rattle.script_text.specs.declared.reading.LineEnd.TheVariants as end;
