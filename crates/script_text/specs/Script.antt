@@ -1,4 +1,5 @@
--- What a script says.
+-- What a script says. A line is read as what it adds to the script, or as the number of the rule that it breaks: 2, where
+-- it isn't one of the lines below.
 use Rattle.std.specs.Prelude.{◌≡◌, ℕ, ◌+◌, ◌==◌, ◌&&◌, ◌||◌, Bool, true, false, nat_lt, nat_le, List, [], ◌∷◌, ◌++◌, length, codes, Result, Ok, Err, ok_or, if◌then◌else◌, ⊤}
 use Rattle.std.specs.List.{list_any}
 use Rattle.std.specs.Option.{option_map}
@@ -13,8 +14,6 @@ use Rattle.script_text.specs.Addresses.{address_of}
 use Rattle.script_text.specs.Frames.{frame_of}
 use Rattle.script_text.specs.Names.{is_name}
 use Rattle.script_text.specs.Words.{words_of}
-use Rattle.script_text.specs.declared.reading.LineEnd.{LineEnd}
-use Rattle.script_text.specs.declared.reading.LineEnd.TheVariants as line
 use Rattle.script_text.specs.declared.script.Script.{Script}
 use Rattle.script_text.specs.declared.script.ScriptEnd.{ScriptEnd}
 use Rattle.script_text.specs.declared.script.ScriptEnd.TheVariants.{BadScript, TooManyLines, OutOfMemory}
@@ -31,8 +30,7 @@ Err e >>= f = Err e
 abbrev pub is_declared : List Interface → List ℕ → Bool
 is_declared interfaces name = list_any (λ interface. bytes_eq interface.name name) interfaces
 
--- `interface NAME 1`, on the first line; here and below the words are those behind the first, and an error is the rule
--- that the line breaks
+-- `interface NAME 1` on the first line, by the words behind its first one
 abbrev pub interface_line : ℕ → List (List ℕ) → Result Interface ℕ
 interface_line number (name ∷ queues ∷ []) =
     if (number == 1) && is_name name && bytes_eq queues (codes "1") then Ok (record { name = name; queues = 1 })
@@ -55,7 +53,7 @@ filter_line interfaces number (verb ∷ object ∷ []) =
     else Err 2
 filter_line interfaces number _ = Err 2
 
--- `packet NAME 0 HEX`, on each further line; the one queue is that of processor 0
+-- `packet NAME 0 HEX` on each further line; the one queue is that of processor 0
 abbrev pub packet_line : List Interface → ℕ → List (List ℕ) → Result What ℕ
 packet_line interfaces number (name ∷ queue ∷ frame ∷ []) =
     if nat_le 4 number && is_declared interfaces name && bytes_eq queue (codes "0")
@@ -79,25 +77,20 @@ read_line script number (command ∷ words) =
     else if bytes_eq command (codes "packet") then packet_line script.interfaces number words >>= with_line script number
     else Err 2
 
--- What is answered is the reading that is wanted; only want of memory is free.
-abbrev pub Reads : {A : Type 0} → Result A LineEnd → Result A ℕ → Type 0
-Reads (Ok x) wanted = wanted ≡ Ok x
-Reads (Err (line.BadLine rule)) wanted = wanted ≡ Err rule
-Reads (Err line.OutOfMemory) wanted = ⊤
-
--- the first bad line, with the rule that it breaks
+-- the line's number beside the rule that it breaks
 abbrev pub at_line : {A : Type 0} → ℕ → Result A ℕ → Result A ScriptEnd
 at_line number (Ok x) = Ok x
 at_line number (Err rule) = Err (BadScript number rule)
 
--- the script with the lines from the number on
+-- the script with the lines from the number on, or the first bad line
 abbrev pub read_lines : Script → ℕ → List (List ℕ) → Result Script ScriptEnd
 read_lines script number [] = Ok script
 read_lines script number (line ∷ more) =
     at_line number (read_line script number (words_of line)) >>= λ script. read_lines script (number + 1) more
 
--- at most 65,536 lines, which end with a line feed that the last may lack; a carriage return before it is dropped
-abbrev pub script_of : List ℕ → Result Script ScriptEnd
+-- The script of some bytes. It has at most 65,536 lines, which end with a line feed that the last may lack; a carriage
+-- return before the line feed is dropped.
+unfoldable pub script_of : List ℕ → Result Script ScriptEnd
 script_of bytes =
     if nat_lt 65536 (length (lines bytes)) then Err TooManyLines
     else read_lines (record { interfaces = []; lines = [] }) 1 (lines bytes)

@@ -6,12 +6,12 @@ use Rattle.script_text.specs.declared.outcome.Outcome.{Outcome}
 use Rattle.script_text.specs.declared.outcome.Outcome.TheVariants.{Ok, Handed}
 
 -- what came of a line
-abbrev pub outcome_text : ℕ → Outcome → List ℕ
+unfoldable pub outcome_text : ℕ → Outcome → List ℕ
 outcome_text line (Ok number) = decimal line ++ (codes " ok " ++ (decimal number ++ codes "\n"))
 outcome_text line (Handed packets) = decimal line ++ (codes " handed " ++ (decimal packets ++ codes "\n"))
 
 -- the script's end
-abbrev pub end_text : ℕ → List ℕ
+unfoldable pub end_text : ℕ → List ℕ
 end_text count = codes "end " ++ (decimal count ++ codes "\n")
 
 -- which processor it is, and which queue of an interface it serves
@@ -34,6 +34,6 @@ actions_text packets =
     ++ (codes " redirect " ++ (decimal (slice_index packets 4) ++ codes "\n")))))))))
 
 -- what a processor, which serves a queue of an interface, has carried
-abbrev pub processor_line : ℕ → List ℕ → ℕ → Tally → List ℕ
+unfoldable pub processor_line : ℕ → List ℕ → ℕ → Tally → List ℕ
 processor_line processor interface queue tally =
     place_text processor ++ interface ++ queue_text queue ++ totals_text tally ++ actions_text tally.packets

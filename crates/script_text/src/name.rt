@@ -18,5 +18,5 @@ fn has_name_bytes(word: &[u8]) -> bool
 pub fn is_name(word: &[u8]) -> bool
     ensures { result ≡ is_name word.now }
 {
-    !word.is_empty() && word.len() <= 15 && word[0] != b'-' && has_name_bytes(word)
+    !word.is_empty() && word.len() <= 15 && !word.starts_with(b"-") && has_name_bytes(word)
 }

@@ -15,6 +15,7 @@ pub enum Outcome {
 }
 
 /// What is printed of a line's outcome.
+#[tactic(auto, unfolding(crate::specs::Texts::outcome_text))]
 pub fn outcome_text(alloc: Global, line: u32, outcome: &Outcome) -> Result<Bytes, OutOfMemory>
     ensures { IfOk result (λ text. text ≡ outcome_text line outcome.now) }
 {
@@ -31,6 +32,7 @@ pub fn outcome_text(alloc: Global, line: u32, outcome: &Outcome) -> Result<Bytes
 }
 
 /// What is printed at the script's end, after so many publications.
+#[tactic(auto, unfolding(crate::specs::Texts::end_text))]
 pub fn end_text(alloc: Global, count: u32) -> Result<Bytes, OutOfMemory>
     ensures { IfOk result (λ text. text ≡ end_text count) }
 {

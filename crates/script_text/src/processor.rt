@@ -45,6 +45,7 @@ fn actions_text(alloc: Global, packets: &[u64; 5]) -> Result<String, AllocError>
 }
 
 /// What is printed of a processor, which serves a queue of an interface.
+#[tactic(auto, unfolding(crate::specs::Texts::processor_line))]
 pub fn processor_line(
     alloc: Global,
     processor: u32,

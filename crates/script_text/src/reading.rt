@@ -1,7 +1,8 @@
 ghost use Rattle.std.specs.Prelude.{◌≡◌, true, IfOk};
 ghost use Rattle.std.specs.List.{list_all};
 ghost use Rattle.script_text.specs.Handed.{has_frame, asks_frame};
-ghost use Rattle.script_text.specs.Script.{is_declared, interface_line, filter_line, packet_line, read_line, Reads};
+ghost use Rattle.script_text.specs.Reading.{Reads};
+ghost use Rattle.script_text.specs.Script.{is_declared, interface_line, filter_line, packet_line, read_line};
 ghost use Rattle.script_text.specs.Words.{words_of};
 ghost use Rattle.script_text.specs.declared.reading.LineEnd.{LineEnd};
 ghost use Rattle.script_text.specs.declared.reading.LineEnd.TheVariants as end;

@@ -28,6 +28,7 @@ pub enum ScriptEnd {
 }
 
 /// The script of some bytes. A bad script ends with its first bad line, and with the least rule that the line breaks.
+#[tactic(auto, unfolding(crate::specs::Script::script_of))]
 pub fn read_script(alloc: Global, bytes: &[u8]) -> Result<Script, ScriptEnd>
     ensures script { Agrees result (script_of bytes.now) }
     ensures frames { IfOk result (λ script. list_all has_frame script.lines ≡ true) }

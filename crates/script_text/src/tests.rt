@@ -15,46 +15,55 @@ fn reads_the_worked_script(rt: HostRuntime) -> Result<(), Fail> {
     let script = read_script(rt.alloc(), WORKED.as_bytes())
         .ok()
         .ok_or("not read")?;
-    assert_eq!(rt; script.interfaces.len(), 1);
-    assert_eq!(rt; script.interfaces.at(0).name.as_slice(), b"eth0".as_slice());
-    assert_eq!(rt; script.interfaces.at(0).queues, 1);
-    assert_eq!(rt; script.lines.len(), 4);
-    assert_eq!(rt; script.lines.at(0).line, 2);
-    match &script.lines.at(0).what {
+    let [interface] = script.interfaces.as_slice() else {
+        return Err("not one interface")?;
+    };
+    assert!(rt; interface.name.as_slice() == b"eth0".as_slice() && interface.queues == 1);
+    let [load, rule, _, packet] = script.lines.as_slice() else {
+        return Err("not four lines")?;
+    };
+    assert!(rt; load.line == 2 && is_worked_load(&load.what));
+    assert!(rt; rule.line == 3 && is_worked_rule(&rule.what));
+    assert!(rt; packet.line == 5 && is_worked_packet(&packet.what));
+    Ok(())
+}
+
+fn is_worked_load(what: &What) -> bool {
+    match what {
         What::Command(
             Command::FilterLoad {
                 interface,
-                mode,
-                policy,
-                features,
+                mode: Mode::Native,
+                policy: Policy::Allow,
+                features: 31,
             },
-        ) => {
-            assert_eq!(rt; interface.as_slice(), b"eth0".as_slice());
-            assert_eq!(rt; *mode, Mode::Native);
-            assert_eq!(rt; *policy, Policy::Allow);
-            assert_eq!(rt; *features, 31);
-        }
-        _ => return Err("no load")?,
+        ) => interface.as_slice() == b"eth0".as_slice(),
+        _ => false,
     }
-    match &script.lines.at(1).what {
-        What::Command(Command::FilterRule { key, flags, remove }) => {
-            assert_eq!(rt; *key, RuleKey::ether(0x0200_0000_0001));
-            assert_eq!(rt; *flags, 2);
-            assert_eq!(rt; *remove, false);
-        }
-        _ => return Err("no rule")?,
+}
+
+fn is_worked_rule(what: &What) -> bool {
+    match what {
+        What::Command(
+            Command::FilterRule {
+                key,
+                flags: 2,
+                remove: false,
+            },
+        ) => *key == RuleKey::ether(0x0200_0000_0001),
+        _ => false,
     }
-    match &script.lines.at(3).what {
-        What::Packet { processor, frame } => {
-            assert_eq!(rt; *processor, 0);
-            assert_eq!(rt;
-                frame.as_slice(),
-                [2, 0, 0, 0, 0, 3, 2, 0, 0, 0, 0, 2, 0x88, 0xb5].as_slice()
-            );
-        }
-        _ => return Err("no packet")?,
+}
+
+fn is_worked_packet(what: &What) -> bool {
+    let bytes = [2, 0, 0, 0, 0, 3, 2, 0, 0, 0, 0, 2, 0x88, 0xb5];
+    match what {
+        What::Packet {
+            processor: 0,
+            frame,
+        } => frame.as_slice() == bytes.as_slice(),
+        _ => false,
     }
-    Ok(())
 }
 
 const ONE: &str = "interface eth0 1\n";
