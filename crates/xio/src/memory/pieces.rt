@@ -1,4 +1,4 @@
-ghost use Rattle.std.specs.Prelude.{◌≡◌, ◌+◌, ◌^◌, ◌<◌, ◌↔◌, Some, length, min, drop, take, IsErr, IfOk};
+ghost use Rattle.std.specs.Prelude.{◌≡◌, ◌+◌, ◌^◌, ◌<◌, ◌≤◌, ◌↔◌, Some, length, min, drop, take, IsErr, IfOk, IfSome};
 ghost use Rattle.xio.specs.Pieces.{IsFrontOf};
 
 use crate::failed::Failed;
@@ -7,6 +7,7 @@ use crate::failed::Failed;
 pub fn piece_at(bytes: &[u8], place: u64, bad_place: Option<u64>) -> Result<&[u8], Failed>
     ensures fails { IsErr result ↔ (bad_place ≡ Some place) }
     ensures front { IfOk result (λ piece. IsFrontOf piece.now (drop place bytes.now)) }
+    ensures stops { IfOk result (λ piece. IfSome bad_place (λ bad. place < bad → place + length piece.now ≤ bad)) }
     ensures fits { IfOk result (λ piece. place + length piece.now < 2 ^ 64) }
 {
     if bad_place == Some(place) {
