@@ -25,7 +25,14 @@ const USAGE: &str =
 const RUNS: [(&[&str], &str, u8, u32, &str, &str); 8] = [
     (&["s"], WORKED, 0, 0, WORKED_OUT, ""),
     (&["s"], "", 0, 0, "end 0\n", ""),
-    (&["s"], "interface eth0 1\nxdp-load eth0\n", 2, 2, "", "xdptool: line 2: rule S2\n"),
+    (
+        &["s"],
+        "interface eth0 1\nxdp-load eth0\n",
+        2,
+        2,
+        "",
+        "xdptool: line 2: rule S2\n",
+    ),
     (&[], WORKED, 2, 0, "", USAGE),
     (&["s", "t"], WORKED, 2, 0, "", USAGE),
     (&["-s"], WORKED, 2, 0, "", USAGE),

@@ -13,7 +13,7 @@ returns-clause-legal c =
     let all : length script.lines ≤ c.loop-line.line-index = omega (arith, ap length c.as_slice-line-items.ensures) in
     let stands : Stands c.loop-line.walk (plan script) = rw (plan-all script c.loop-line.line-index all) at c.loop-line.invariant.stands in
     rw (c.in_ok-counts_of.ensures ∙ ended-counts c.loop-line.walk script.interfaces (plan script) stands c.loop-line.invariant.same)
-      (legal-needs_from 0 (queues_of script.interfaces) (plan script) stands.legal)
+    (legal-needs_from 0 (queues_of script.interfaces) (plan script) stands.legal)
 
 pub returns-clause-text : goal.returns-clause-text
 returns-clause-text c =
@@ -21,4 +21,4 @@ returns-clause-text c =
     let all : length script.lines ≤ c.loop-line.line-index = omega (arith, ap length c.as_slice-line-items.ensures) in
     let stands : Stands c.loop-line.walk (plan script) = rw (plan-all script c.loop-line.line-index all) at c.loop-line.invariant.stands in
     rw (c.in_ok-counts_of.ensures ∙ ended-counts c.loop-line.walk script.interfaces (plan script) stands c.loop-line.invariant.same)
-      (rw c.loop-line.invariant.same at (c.in_ok-text.ensures (plan script) stands))
+    (rw c.loop-line.invariant.same at (c.in_ok-text.ensures (plan script) stands))

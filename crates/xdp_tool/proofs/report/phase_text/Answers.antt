@@ -11,6 +11,6 @@ returns c = λ phase stands.
     let count = c.count.ensures ∙ (ap (λ b. b.count) stands.state ∙ stands.count) in
     let lanes = ap (lanes_text 0) c.deref.ensures.value ∙ lanes_text-processors_text 0 (queues_of walk.interfaces.now) phase walk.lanes.items stands.lanes in
     three-pieces _ _ _ _ _ _ _ _ _ _ c.new-text.ensures c.in_ok-append.ensures.ok c.in_ok-append-2.ensures.ok c.in_ok-append-3.ensures.ok
-      (c.as_slice.ensures ∙ stands.text)
-      (c.as_slice-2.ensures ∙ (c.in_ok-end_text.ensures ∙ ap end_text count))
-      (c.as_slice-3.ensures ∙ (c.in_ok-lanes_text.ensures ∙ lanes))
+    (c.as_slice.ensures ∙ stands.text)
+    (c.as_slice-2.ensures ∙ (c.in_ok-end_text.ensures ∙ ap end_text count))
+    (c.as_slice-3.ensures ∙ (c.in_ok-lanes_text.ensures ∙ lanes))

@@ -10,4 +10,4 @@ loop-number-preserved c =
     let n = c.loop-number.number in
     let here = c.at.ensures in
     rw (queues_from-more interfaces n c.at.result.now (slice_get_within interfaces n _ here) (sym (get_or_from_slice_get interfaces n _ c.at.result.now here)))
-      (c.in_ok-add_lanes.ensures (queues_from 0 (take n interfaces)) c.loop-number.invariant)
+    (c.in_ok-add_lanes.ensures (queues_from 0 (take n interfaces)) c.loop-number.invariant)
