@@ -2,6 +2,8 @@
 use Rattle.std.specs.Prelude.{◌≡◌, ℕ, ◌+◌, ◌-◌, ◌^◌, ◌≤◌, min, Result, Err, OnErr}
 use Rattle.xio.specs.declared.files.FileFault.{FileFault}
 use Rattle.xio.specs.declared.files.FileFault.TheVariants.{Failed}
+use Rattle.xio.specs.declared.read_end.ReadEnd.{ReadEnd}
+use Rattle.xio.specs.declared.read_end.ReadEnd.TheVariants.{ReadFault}
 
 -- the count rose, or stands at the last value of its type
 abbrev pub Rose : ℕ → ℕ → Type 0
@@ -16,3 +18,8 @@ pub record HasCause {T E : Type 0} (before now : ℕ) (result : Result T E) : Ty
 pub record HasFileCause {T : Type 0} (before now : ℕ) (result : Result T FileFault) : Type 0 where
   pub later : before ≤ now
   pub failed : result ≡ Err Failed → Rose before now
+
+-- the same for a read of a whole source, where only a read fault has a cause
+pub record HasReadCause (before now : ℕ) (result : Result Unit ReadEnd) : Type 0 where
+  pub later : before ≤ now
+  pub failed : result ≡ Err ReadFault → Rose before now

@@ -1,4 +1,14 @@
+pub mod Action
 pub mod Causes
+pub mod Prefixes
 pub mod Streams
 pub mod Handles
 pub mod Told
+pub mod Lent
+pub mod ReadFile
+pub mod Room
+pub mod Pieces
+pub mod Shelf
+pub mod Numbers
+pub mod MemoryFiles
+pub mod Slot

@@ -1,5 +1,5 @@
 -- What an object of files may tell of itself, and how each call changes it.
-use Rattle.std.specs.Prelude.{ℕ, nat_eq, ◌+◌, ◌==◌, Bool, List, [], ◌∷◌, ◌++◌, length, take, drop, if◌then◌else◌, Result, Ok, Err}
+use Rattle.std.specs.Prelude.{ℕ, nat_eq, ◌+◌, List, [], ◌∷◌, ◌++◌, length, take, drop, if◌then◌else◌, Result, Ok, Err}
 use Rattle.std.specs.Cmp.Lexicographic.{pointwise}
 use Rattle.xio.specs.Handles.{set_at}
 use Rattle.xio.specs.declared.files.FileFault.{FileFault}
@@ -18,6 +18,10 @@ pub record Told : Type 0 where
   pub name_of : ℕ → List ℕ
   -- by opened number: its call
   pub call_of : ℕ → ℕ
+
+-- what is told of no files
+abbrev pub told_none : Told
+told_none = record { content = λ _. []; flushed = λ _. 0; asked = []; places = λ _. 0; name_of = λ _. []; call_of = λ _. 0 }
 
 -- f with v at this name
 abbrev pub set_named : {V : Type 0} → (List ℕ → V) → List ℕ → V → List ℕ → V
@@ -67,3 +71,16 @@ after_flush t file (Ok _) = record t {
   flushed = set_named t.flushed (t.name_of file) (length (t.content (t.name_of file)));
 }
 after_flush t file (Err _) = t
+
+-- what is told once an opened file is taken to its end
+abbrev pub taken_whole : Told → ℕ → Told
+taken_whole t file = record t {
+  places = set_at t.places (t.call_of file) (t.places (t.call_of file) + length (rest_of t file));
+}
+
+-- what is told but for a made file's bytes
+abbrev pub told_beside : Told → ℕ → Told
+told_beside t file = record t {
+  content = set_named t.content (t.name_of file) [];
+  flushed = set_named t.flushed (t.name_of file) 0;
+}

@@ -13,6 +13,10 @@ pub enum FileFault {
 }
 
 impl From<OutOfMemory> for FileFault {
+    ghost use Rattle.xio.specs.declared.files.FileFault.TheVariants as fault;
+
+    ghost from_gives = { λ _ end. end ≡ fault.OutOfMemory };
+
     fn from(_: OutOfMemory) -> Self {
         FileFault::OutOfMemory
     }

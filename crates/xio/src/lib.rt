@@ -3,13 +3,33 @@
 
 mod action;
 mod failed;
+mod file_sink;
+mod file_source;
 mod files;
+mod memory;
+mod read_end;
+mod reading;
+mod real;
 mod sink;
 mod source;
+#[cfg(test)]
+mod tests;
+mod whole_file;
+mod write_fault;
+mod writing;
 
 pub use action::Action;
 pub use failed::Failed;
+pub use file_sink::FileSink;
+pub use file_source::FileSource;
 pub use files::{FileFault, Files};
 pub use lists::{Bytes, List, OutOfMemory};
+pub use memory::{MemoryFiles, MemorySink, MemorySource};
+pub use read_end::ReadEnd;
+pub use reading::read_all;
+pub use real::{RealFiles, RealOut};
 pub use sink::Sink;
 pub use source::Source;
+pub use whole_file::read_file;
+pub use write_fault::WriteFault;
+pub use writing::write_all;

@@ -1,0 +1,29 @@
+-- The rows of the filter, in the order in which they were made.
+use Rattle.std.specs.Prelude.{ℕ, Bool, bit_or, List, [], ◌∷◌, find, if◌then◌else◌}
+use Rattle.std.specs.List.{list_any}
+use Rattle.std.specs.Option.{option_map_or}
+use Rattle.filter_rules.specs.Rule.{same_key}
+use Rattle.filter_rules.specs.declared.rule.RuleKey.{RuleKey}
+use Rattle.filter_rules.specs.declared.rule.RuleRow.{RuleRow}
+
+abbrev pub has_key : RuleKey → RuleRow → Bool
+has_key key row = same_key row.key key
+
+-- some row has the key
+abbrev pub has_row : List RuleRow → RuleKey → Bool
+has_row rows key = list_any (has_key key) rows
+
+-- the list with the first item that passes edited; where none passes, a new item stands last
+abbrev pub edit_or_push : {X : Type 0} → (X → Bool) → (X → X) → X → List X → List X
+edit_or_push passes edit new [] = new ∷ []
+edit_or_push passes edit new (x ∷ xs) = if passes x then edit x ∷ xs else x ∷ edit_or_push passes edit new xs
+
+-- the row with the key has these flags too; where no row has the key, a new one with this number stands last
+abbrev pub set_rule : List RuleRow → RuleKey → ℕ → ℕ → List RuleRow
+set_rule rows key flags number =
+    edit_or_push (has_key key) (λ row. record row { flags = bit_or row.flags flags })
+    (record { key = key; flags = flags; number = number }) rows
+
+-- the number of the row with the key, or this one where no row has it
+abbrev pub number_of : List RuleRow → RuleKey → ℕ → ℕ
+number_of rows key number = option_map_or (λ row. row.number) (find (has_key key) rows) number

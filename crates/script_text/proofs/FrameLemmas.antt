@@ -1,0 +1,17 @@
+-- The length of a frame's word.
+use Rattle.std.proofs.Common.{◌≡◌, ℕ, ◌<◌, ◌≤◌, ◌*◌, ◌==◌, ◌⊎◌, Bool, true, false, List, length, Result, Ok, Err, Option, Some, None, refl, sym, ◌∙◌, ap, inl, inr, arith}
+use Rattle.hex.specs.Hex.{decode_of}
+use Rattle.hex.specs.declared.error.FromHexError.{FromHexError}
+use Rattle.hex.proofs.HexLemmas.{decode_of-ok}
+use Rattle.std.specs.Result.{result_ok}
+use Rattle.std.specs.Prelude.{option_and_then, if◌then◌else◌}
+use Rattle.std.proofs.lemmas.Grind.{common_steps}
+use Rattle.script_text.specs.Frames.{frame_of, is_frame}
+
+-- a frame has two digits a byte, so a word of another length is none
+pub frame_of-other : (word : List ℕ) → (length word < 28) ⊎ (31744 < length word) → frame_of word ≡ None
+frame_of-other word other = decoded (decode_of word) refl
+  where
+    decoded : (r : Result (List ℕ) FromHexError) → decode_of word ≡ r → option_and_then (λ bytes. if is_frame bytes then Some bytes else None) (result_ok r) ≡ None
+    decoded (Ok bytes) is = let twice = (decode_of-ok word bytes is).2 in grind (arith, twice, other)
+    decoded (Err e) is = refl

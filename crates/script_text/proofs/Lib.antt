@@ -1,0 +1,5 @@
+pub mod AddressLemmas
+pub mod FrameLemmas
+pub mod HandedLemmas
+pub mod LineLemmas
+pub mod WordLemmas

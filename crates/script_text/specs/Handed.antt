@@ -1,0 +1,17 @@
+-- The frames that a script hands in.
+use Rattle.std.specs.Prelude.{ℕ, ◌&&◌, Bool, true, nat_le, List, length}
+use Rattle.script_text.specs.declared.what.Line.{Line}
+use Rattle.script_text.specs.declared.what.What.{What}
+use Rattle.script_text.specs.declared.what.What.TheVariants as what
+
+-- 14 to 15,872 bytes
+abbrev pub has_frame_size : List ℕ → Bool
+has_frame_size bytes = nat_le 14 (length bytes) && nat_le (length bytes) 15872
+
+abbrev pub asks_frame : What → Bool
+asks_frame (what.Packet processor frame) = has_frame_size frame
+asks_frame (what.Command command) = true
+
+-- a line that hands in a packet has a frame of that size
+abbrev pub has_frame : Line → Bool
+has_frame line = asks_frame line.what

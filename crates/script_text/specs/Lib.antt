@@ -1,0 +1,8 @@
+pub mod Addresses
+pub mod Frames
+pub mod Handed
+pub mod Names
+pub mod Reading
+pub mod Script
+pub mod Texts
+pub mod Words

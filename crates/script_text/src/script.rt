@@ -1,0 +1,55 @@
+ghost use Rattle.std.specs.Prelude.{◌≡◌, true, IfOk};
+ghost use Rattle.std.specs.List.{list_all};
+ghost use Rattle.script_text.specs.Handed.{has_frame};
+ghost use Rattle.script_text.specs.Script.{script_of, Agrees};
+
+use crate::lines::{has_more_lines, split_line};
+use crate::reading::{LineEnd, read_line};
+use crate::what::LineList;
+use std::alloc::Global;
+use xdp_state::InterfaceList;
+
+/// The most lines of a script.
+const MOST_LINES: u32 = 65_536;
+
+/// A script: the interfaces that it declares, and what its other lines ask.
+#[derive(Debug, Drop)]
+pub struct Script {
+    pub interfaces: InterfaceList,
+    pub lines: LineList,
+}
+
+/// Why a script isn't taken: a line, from 1, that breaks a rule, or more than 65,536 lines.
+#[derive(Clone, Copy, Debug, PartialEq, Eq)]
+pub enum ScriptEnd {
+    BadScript { line: u32, rule: u8 },
+    TooManyLines,
+    OutOfMemory,
+}
+
+/// The script of some bytes. A bad script ends with its first bad line, and with the least rule that the line breaks.
+#[tactic(auto, unfolding(crate::specs::Script::script_of))]
+pub fn read_script(alloc: Global, bytes: &[u8]) -> Result<Script, ScriptEnd>
+    ensures script { Agrees result (script_of bytes.now) }
+    ensures frames { IfOk result (λ script. list_all has_frame script.lines ≡ true) }
+{
+    if has_more_lines(bytes, MOST_LINES) {
+        return Err(ScriptEnd::TooManyLines);
+    }
+    let mut script = Script {
+        interfaces: InterfaceList::new(alloc),
+        lines: LineList::new(alloc),
+    };
+    let mut line = 0;
+    let mut rest = bytes;
+    while let Some((text, behind)) = split_line(rest) {
+        line += 1;
+        rest = behind;
+        script = match read_line(alloc, script, line, text) {
+            Ok(script) => script,
+            Err(LineEnd::BadLine { rule }) => return Err(ScriptEnd::BadScript { line, rule }),
+            Err(LineEnd::OutOfMemory) => return Err(ScriptEnd::OutOfMemory),
+        };
+    }
+    Ok(script)
+}

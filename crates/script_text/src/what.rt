@@ -1,0 +1,19 @@
+use xdp_state::Command;
+use xio::{Bytes, List};
+
+/// What a line of the script asks.
+#[derive(Debug, Drop)]
+pub enum What {
+    Command(Command),
+    Packet { processor: u32, frame: Bytes },
+}
+
+/// A line of the script, by its number from 1.
+#[derive(Debug, Drop)]
+pub struct Line {
+    pub line: u32,
+    pub what: What,
+}
+
+/// Lines in the order of the script; declarations of interfaces are none.
+pub type LineList = List<Line>;

@@ -1,0 +1,71 @@
+-- What a list of changes makes, from nothing.
+use Rattle.std.specs.Prelude.{ℕ, ◌+◌, ◌==◌, ◌&&◌, ◌||◌, Bool, true, false, not, nat_lt, nat_le, List, [], ◌∷◌, ◌++◌, length, filter, fold, if◌then◌else◌}
+use Rattle.std.specs.List.{list_any, list_all}
+use Rattle.filter_rules.specs.Rule.{all_flags}
+use Rattle.filter_rules.specs.Rules.{has_row, set_rule}
+use Rattle.filter_rules.specs.declared.rule.RuleRow.{RuleRow}
+use Rattle.xdp_state.specs.declared.attachment.Attachment.{Attachment}
+use Rattle.xdp_state.specs.declared.attachment.Mode.{Mode}
+use Rattle.xdp_state.specs.declared.attachment.Mode.TheVariants.{Native, Skb}
+use Rattle.xdp_state.specs.declared.change.Change.{Change}
+use Rattle.xdp_state.specs.declared.change.Change.TheVariants.{Attach, SetRule}
+
+pub record Book : Type 0 where
+  -- in order of attaching
+  pub members : List Attachment
+  -- in order of making
+  pub rows : List RuleRow
+  -- of the publications so far
+  pub count : ℕ
+
+abbrev pub empty : Book
+empty = record { members = []; rows = []; count = 0 }
+
+abbrev pub same_mode : Mode → Mode → Bool
+same_mode Native Native = true
+same_mode Skb Skb = true
+same_mode _ _ = false
+
+-- the members of an interface, in order of attaching
+abbrev pub members_of : List Attachment → ℕ → List Attachment
+members_of members interface = filter (λ m. m.interface == interface) members
+
+-- fewer than ten members are there, none of another mode, and no filter
+abbrev pub has_place : List Attachment → Mode → Bool
+has_place there mode = nat_lt (length there) 10 && list_all (λ m. same_mode m.mode mode) there && (length there == 0)
+
+-- the book takes the change
+abbrev pub fits : Book → Change → Bool
+fits book (Attach interface kind priority rank mask mode) =
+    nat_lt interface 8 && has_place (members_of book.members interface) mode
+fits book (SetRule key flags) =
+    not (flags == 0) && nat_le flags (all_flags key.kind) && (has_row book.rows key || nat_lt (length book.rows) 4096)
+
+abbrev pub takes : Book → Change → Bool
+takes book change = nat_lt book.count 65536 && fits book change
+
+-- the change made, as the publication of the next number
+abbrev pub made : Book → Change → Book
+made book (Attach interface kind priority rank mask mode) = record book {
+  members = book.members ++ record {
+    interface = interface;
+    kind = kind;
+    priority = priority;
+    rank = rank;
+    mask = mask;
+    mode = mode;
+    number = book.count + 1;
+  } ∷ [];
+  count = book.count + 1;
+}
+made book (SetRule key flags) = record book {
+  rows = set_rule book.rows key flags (book.count + 1);
+  count = book.count + 1;
+}
+
+-- a change that the book does not take changes nothing
+abbrev pub applied : Book → Change → Book
+applied book change = if takes book change then made book change else book
+
+abbrev pub after : List Change → Book
+after changes = fold applied empty changes

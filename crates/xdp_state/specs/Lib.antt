@@ -1,0 +1,9 @@
+pub mod Book
+pub mod Capped
+pub mod Carrier
+pub mod Own
+pub mod OwnView
+pub mod State
+pub mod Sums
+pub mod Traversal
+pub mod Wanted

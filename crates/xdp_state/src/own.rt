@@ -1,0 +1,218 @@
+ghost use Rattle.std.specs.Prelude.{◌≡◌, ◌≤◌, length, vec_capacity, vec_len, None, Some, IsSome, IfSome, IfOk, OnOk, []};
+ghost use Rattle.xdp_state.specs.Book.{members_of};
+ghost use Rattle.xdp_state.specs.Traversal.{visit, visits_of, verdict_of, traversal};
+ghost use Rattle.xdp_state.specs.Own.{IsPrepared};
+
+use crate::attachment::{Attachment, Kind};
+use crate::state::State;
+use crate::traversal::{Traversal, Visit};
+use filter_rules::{FilterEnd, Rules, headers};
+use lists::{Bytes, List};
+use std::alloc::Global;
+use std::marker::Model;
+use xio::{Action, OutOfMemory};
+
+/// The longest frame that comes in.
+pub const FRAME: usize = 15_872;
+
+/// What a processor keeps of its own: its interface, and the way of its last packet.
+#[derive(Debug, Drop)]
+pub struct Own {
+    interface: u32,
+    visits: Vec<Visit>,
+    frame: Vec<u8>,
+    verdict: Option<Action>,
+}
+
+impl Model for Own {
+    ghost use Rattle.xdp_state.specs.Carrier.{Carrier};
+    ghost use Rattle.xdp_state.specs.OwnView.{view_of, HasFrame};
+
+    ghost Value = { Carrier };
+
+    ghost view = { view_of };
+
+    ghost invariant = { HasFrame };
+}
+
+impl Own {
+    /// What a processor of this interface starts with.
+    pub fn new(alloc: Global, interface: u32) -> Result<Self, OutOfMemory>
+        ensures on { IfOk result (λ own. own.interface ≡ interface) }
+        ensures idle { IfOk result (λ own. own.trip ≡ None) }
+    {
+        Ok(Own {
+            interface,
+            visits: Vec::new(alloc),
+            frame: Vec::with_capacity(alloc, FRAME)?,
+            verdict: None,
+        })
+    }
+
+    /// Takes the room of a visit of each member that the interface has now.
+    pub fn prepare(&mut self, state: &State) -> Result<(), OutOfMemory>
+        ensures ready { OnOk result (IsPrepared self.new state.now) }
+        ensures same { self.new ≡ record self.old { room = self.new.room } }
+    {
+        let members = members_on(state.members(), self.interface);
+        self.visits.reserve(members)?;
+        Ok(())
+    }
+
+    /// The verdict on the last packet.
+    pub fn verdict(&self) -> Action
+        requires { IsSome self.now.trip }
+        ensures { IfSome self.now.trip (λ trip. result ≡ trip.verdict) }
+    {
+        self.verdict.unwrap()
+    }
+
+    /// The way of the last packet.
+    pub fn trip(&self, alloc: Global) -> Result<Traversal, OutOfMemory>
+        requires { IsSome self.now.trip }
+        ensures { IfOk result (λ trip. self.now.trip ≡ Some trip) }
+    {
+        let mut visits = List::new(alloc);
+        for visit in &self.visits {
+            visits.push(*visit)?;
+        }
+        let mut frame = Bytes::new(alloc);
+        frame.append(&self.frame)?;
+        let verdict = self.verdict.unwrap();
+        Ok(Traversal {
+            visits,
+            verdict,
+            frame,
+        })
+    }
+}
+
+/// Takes a frame of 14 to 15,872 bytes through its interface's chain; `Own::trip` tells the way.
+pub fn traverse(state: &State, own: &mut Own, frame: &[u8])
+    requires prepared { IsPrepared own.old state.now }
+    requires least { 14 ≤ length frame.now }
+    requires most { length frame.now ≤ 15872 }
+    ensures { own.new ≡ record own.old { trip = Some (traversal state.now own.old.interface frame.now) } }
+{
+    own.visits.clear();
+    own.frame.clear();
+    let Ok(()) = own.frame.extend_from_slice(frame) else {
+        unreachable!()
+    };
+    let verdict = visit_all(
+        state.rules(),
+        frame,
+        state.members(),
+        own.interface,
+        &mut own.visits,
+    );
+    own.verdict = Some(verdict);
+}
+
+/// How many members the interface has.
+fn members_on(members: &[Attachment], interface: u32) -> usize
+    ensures { result ≡ length (members_of members.now interface) }
+{
+    members
+        .iter()
+        .filter(|member| member.interface == interface)
+        .count()
+}
+
+/// Visits the members of the interface in order, and answers the verdict.
+fn visit_all(
+    rules: &Rules,
+    frame: &[u8],
+    members: &[Attachment],
+    interface: u32,
+    visits: &mut Vec<Visit>,
+) -> Action
+    requires least { 14 ≤ length frame.now }
+    requires none { visits.old.items ≡ [] }
+    requires room { length (members_of members.now interface) ≤ vec_capacity visits.old }
+    ensures visits { visits.new.items ≡ visits_of rules.now frame.now (members_of members.now interface) }
+    ensures verdict { result ≡ verdict_of rules.now frame.now (members_of members.now interface) }
+    ensures room { vec_capacity visits.new ≡ vec_capacity visits.old }
+{
+    for member in members {
+        if member.interface == interface {
+            let visit = visit(rules, frame, member);
+            visits.push_reserved(visit);
+            if !visit.action.is_in(member.mask) {
+                return visit.action;
+            }
+        }
+    }
+    Action::Pass
+}
+
+/// What one member makes of the frame.
+fn visit(rules: &Rules, frame: &[u8], member: &Attachment) -> Visit
+    requires { 14 ≤ length frame.now }
+    ensures { result ≡ visit rules.now frame.now member.now }
+{
+    let Kind::Filter { policy, features } = member.kind;
+    let Ok(headers) = headers(frame) else {
+        unreachable!()
+    };
+    match rules.verdict(&headers, policy, features) {
+        FilterEnd::Hit { rule, action } => Visit {
+            number: member.number,
+            action,
+            rule: Some(rule),
+        },
+        FilterEnd::Miss { action } => Visit {
+            number: member.number,
+            action,
+            rule: None,
+        },
+    }
+}
+
+#[cfg(test)]
+mod tests {
+    use super::*;
+    use crate::attachment::Mode;
+    use crate::change::Change;
+    use filter_rules::{Policy, RuleKey};
+    use std::test::Fail;
+
+    #[test]
+    fn drops_the_frame_that_a_rule_names(rt: HostRuntime) -> Result<(), Fail> {
+        let mut state = State::new(rt.alloc())?;
+        state.absorb(&Change::Attach {
+            interface: 3,
+            kind: Kind::Filter {
+                policy: Policy::Allow,
+                features: 16,
+            },
+            priority: 10,
+            rank: 0,
+            mask: 4,
+            mode: Mode::Native,
+        });
+        state.absorb(&Change::SetRule {
+            key: RuleKey::ether(0x0200_0000_0001),
+            flags: 2,
+        });
+        // the last byte of the target, and what becomes of the frame
+        let rows = [(1, Action::Drop, Some(2)), (3, Action::Pass, None)];
+        let mut own = Own::new(rt.alloc(), 3)?;
+        for (last, action, rule) in rows {
+            let frame = [2, 0, 0, 0, 0, last, 2, 0, 0, 0, 0, 2, 0x88, 0xB5];
+            own.prepare(&state)?;
+            traverse(&state, &mut own, &frame);
+            assert_eq!(rt; own.verdict(), action);
+            let trip = own.trip(rt.alloc())?;
+            let visit = Visit {
+                number: 1,
+                action,
+                rule,
+            };
+            assert_eq!(rt; trip.visits.as_slice(), [visit].as_slice());
+            assert_eq!(rt; trip.verdict, action);
+            assert_eq!(rt; trip.frame.as_slice(), frame.as_slice());
+        }
+        Ok(())
+    }
+}

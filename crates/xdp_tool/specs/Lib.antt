@@ -1,0 +1,11 @@
+pub mod Ending
+pub mod Walked
+pub mod Words
+pub mod Queues
+pub mod Plan
+pub mod Lanes
+pub mod Legal
+pub mod Texts
+pub mod Outcome
+pub mod Headline
+pub mod Named

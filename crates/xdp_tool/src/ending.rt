@@ -1,0 +1,79 @@
+ghost use Rattle.std.specs.Prelude.{◌≡◌, IfOk};
+
+use std::alloc::Global;
+use xio::{Bytes, OutOfMemory};
+
+/// How the program is called.
+const USAGE: &[u8] =
+    b"usage: xdptool [--capture FILE] [--trace FILE] [--replay FILE] [--demo SEED] [SCRIPT]\n";
+
+/// A limit that an input passed.
+#[derive(Clone, Copy, Debug, PartialEq, Eq)]
+pub enum LimitName {
+    /// 16,777,216 bytes of a script
+    Script,
+    /// 65,536 lines of a script
+    Lines,
+}
+
+/// How a run ends.
+#[derive(Clone, Copy, Debug, PartialEq, Eq)]
+pub enum Ending {
+    /// The script ran to its end.
+    Done,
+    /// The words aren't taken.
+    Usage,
+    /// A line of the script, from 1, breaks a rule.
+    BadScript { line: u32, rule: u8 },
+    /// A file or an output failed.
+    Fault,
+    OutOfMemory,
+    Limit(LimitName),
+}
+
+impl Ending {
+    ghost use Rattle.xdp_tool.specs.Ending.{status_of, line_of, err_text};
+
+    /// The exit status.
+    pub fn status(&self) -> u8
+        ensures { result ≡ status_of self.now }
+    {
+        match self {
+            Ending::Done => 0,
+            Ending::Usage | Ending::BadScript { .. } => 2,
+            Ending::Fault => 3,
+            Ending::OutOfMemory => 4,
+            Ending::Limit(_) => 5,
+        }
+    }
+
+    /// The script's line that breaks a rule, or 0.
+    pub fn line(&self) -> u32
+        ensures { result ≡ line_of self.now }
+    {
+        match self {
+            Ending::BadScript { line, .. } => *line,
+            _ => 0,
+        }
+    }
+
+    /// What is said on err.
+    pub fn text(&self, alloc: Global) -> Result<Bytes, OutOfMemory>
+        ensures { IfOk result (λ text. text ≡ err_text self.now) }
+    {
+        let mut text = Bytes::new(alloc);
+        match self {
+            Ending::Done => {}
+            Ending::Usage => text.append(USAGE)?,
+            Ending::BadScript { line, rule } => {
+                let said = format!(in alloc; "xdptool: line {line}: rule S{rule}\n")?;
+                text.append(said.as_bytes())?;
+            }
+            Ending::Fault => text.append(b"xdptool: fault\n")?,
+            Ending::OutOfMemory => text.append(b"xdptool: out of memory\n")?,
+            Ending::Limit(LimitName::Script) => text.append(b"xdptool: limit script 16777216\n")?,
+            Ending::Limit(LimitName::Lines) => text.append(b"xdptool: limit lines 65536\n")?,
+        }
+        Ok(text)
+    }
+}

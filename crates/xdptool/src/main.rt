@@ -1,0 +1,27 @@
+//! The program `xdptool`: the tool's run over the system's files and streams.
+#![tactic(auto)]
+
+use std::process::ExitCode;
+use std::rt::Env;
+use std::{env, io};
+use xdp_tool::run_tool;
+use xio::{RealFiles, RealOut};
+
+/// The words behind the program's name.
+fn words_of(rt: &(impl Env + AllocGlobal)) -> io::Result<Vec<String>> {
+    let mut words = Vec::new(rt.alloc());
+    for word in env::args(rt)?.skip(1) {
+        words.push(word)?;
+    }
+    Ok(words)
+}
+
+/// Words that can't be read, as where they aren't UTF-8, aren't taken: they count as none.
+fn main(rt: HostRuntime) -> ExitCode {
+    let words = words_of(&rt).unwrap_or(Vec::new(rt.alloc()));
+    let mut files = RealFiles::new(rt.alloc(), rt);
+    let mut out = RealOut::new(rt.stdout());
+    let mut err = RealOut::new(rt.stderr());
+    let ended = run_tool(rt.alloc(), words.as_slice(), &mut files, &mut out, &mut err);
+    ExitCode::from(ended.status)
+}

@@ -1,0 +1,7 @@
+pub mod PrefixLemmas
+pub mod SetLemmas
+mod Taken
+mod OneFile
+mod ShelfLemmas
+mod NumbersLemmas
+mod PiecesLemmas

@@ -1,0 +1,173 @@
+ghost use Rattle.std.specs.Prelude.{◌≡◌, ◌↔◌, true, false, IsTrue, IsSome, IfOk, IfSome, OnOk, OnErr};
+ghost use Rattle.xio.specs.Handles.{Closed};
+ghost use Rattle.xio.specs.Told.{set_named, told_none};
+
+use crate::failed::Failed;
+use crate::files::{FileFault, Files};
+use crate::memory::calls::Calls;
+use crate::memory::copies::copy_of;
+use crate::memory::numbers::Numbers;
+use crate::memory::pieces::fill;
+use crate::memory::room::Room;
+use crate::memory::shelf::Shelf;
+use crate::memory::stored_file::StoredFile;
+use lists::OutOfMemory;
+use std::alloc::Global;
+
+/// Files in memory. A call fails where it is to fail, where a name that isn't there is opened, where a read is at its
+/// file's bad place, and where a write passes the room of its file.
+#[derive(Debug, Drop)]
+pub struct MemoryFiles {
+    alloc: Global,
+    capacity: u32,
+    shelf: Shelf,
+    numbers: Numbers,
+    calls: Calls,
+    read_faults: u64,
+    write_faults: u64,
+}
+
+impl MemoryFiles {
+    ghost use Rattle.xio.specs.MemoryFiles.{told_by, handles_of, has_file};
+
+    /// No files. Each made file takes room for `capacity` bytes. `failing` are the calls that are to fail, numbered from 1.
+    pub fn new(alloc: Global, capacity: u32, failing: &[u32]) -> Result<Self, OutOfMemory>
+        ensures told { IfOk result (λ files. told_by files ≡ told_none) }
+        ensures no_files { IfOk result (λ files. (name : _) → has_file files name ≡ false) }
+        ensures no_numbers { IfOk result (λ files. handles_of files ≡ (λ _. Closed)) }
+        ensures no_read_faults { IfOk result (λ files. ⟦<MemoryFiles as Files>⟧.read_faults files ≡ 0) }
+        ensures no_write_faults { IfOk result (λ files. ⟦<MemoryFiles as Files>⟧.write_faults files ≡ 0) }
+    {
+        Ok(MemoryFiles {
+            alloc,
+            capacity,
+            shelf: Shelf::new(alloc),
+            numbers: Numbers::new(alloc),
+            calls: Calls::new(alloc, failing)?,
+            read_faults: 0,
+            write_faults: 0,
+        })
+    }
+
+    /// Adds a file. A read at its bad place fails.
+    pub fn add(
+        &mut self,
+        name: &str,
+        bytes: &[u8],
+        bad_place: Option<u64>,
+    ) -> Result<(), OutOfMemory>
+        requires { has_file self.old name.now ≡ false }
+        ensures ok { OnOk result (told_by self.new ≡ record (told_by self.old) {
+          content = set_named (told_by self.old).content name.now bytes.now;
+          flushed = set_named (told_by self.old).flushed name.now 0;
+        }) }
+        ensures err { OnErr result (told_by self.new ≡ told_by self.old) }
+        ensures same_handles { handles_of self.new ≡ handles_of self.old }
+    {
+        let mut room = Room::new(self.alloc, bytes.len())?;
+        let _ = room.put(bytes);
+        let file = StoredFile {
+            name: copy_of(self.alloc, name.as_bytes())?,
+            room,
+            flushed: 0,
+            bad_place,
+        };
+        self.shelf.reserve()?;
+        self.shelf.place(file);
+        Ok(())
+    }
+
+    pub fn content(&self, name: &str) -> Option<&[u8]>
+        ensures there { IsSome result ↔ IsTrue (has_file self.now name.now) }
+        ensures bytes { IfSome result (λ bytes. bytes.now ≡ (told_by self.now).content name.now) }
+    {
+        self.shelf.content(name.as_bytes())
+    }
+}
+
+impl Files for MemoryFiles {
+    ghost use Rattle.xio.specs.MemoryFiles.{told_by, handles_of};
+
+    ghost tells = { true };
+
+    ghost told = { told_by };
+
+    ghost handles = { handles_of };
+
+    ghost read_faults = { λ files. files.read_faults };
+
+    ghost write_faults = { λ files. files.write_faults };
+
+    fn open_file(&mut self, name: &str) -> Result<u32, FileFault> {
+        let fails = self.calls.next_fails() || self.shelf.content(name.as_bytes()).is_none();
+        let asked = copy_of(self.alloc, name.as_bytes())?;
+        let own_name = copy_of(self.alloc, name.as_bytes())?;
+        self.numbers.reserve()?;
+        if fails {
+            self.numbers.ask(asked);
+            self.read_faults = self.read_faults.saturating_add(1);
+            return Err(FileFault::Failed);
+        }
+        Ok(self.numbers.open(own_name, asked))
+    }
+
+    fn make_file(&mut self, name: &str) -> Result<u32, FileFault> {
+        if self.calls.next_fails() {
+            self.write_faults = self.write_faults.saturating_add(1);
+            return Err(FileFault::Failed);
+        }
+        let file = StoredFile {
+            name: copy_of(self.alloc, name.as_bytes())?,
+            room: Room::new(self.alloc, self.capacity as usize)?,
+            flushed: 0,
+            bad_place: None,
+        };
+        let own_name = copy_of(self.alloc, name.as_bytes())?;
+        self.numbers.reserve()?;
+        self.shelf.reserve()?;
+        self.shelf.place(file);
+        Ok(self.numbers.make(own_name))
+    }
+
+    fn read(&mut self, file: u32, buffer: &mut [u8]) -> Result<usize, Failed> {
+        if self.calls.next_fails() {
+            self.read_faults = self.read_faults.saturating_add(1);
+            return Err(Failed);
+        }
+        match self
+            .shelf
+            .piece(self.numbers.name(file), self.numbers.place(file))
+        {
+            Ok(piece) => {
+                let count = fill(buffer, piece);
+                self.numbers.advance(file, count);
+                Ok(count)
+            }
+            Err(Failed) => {
+                self.read_faults = self.read_faults.saturating_add(1);
+                Err(Failed)
+            }
+        }
+    }
+
+    fn write(&mut self, file: u32, piece: &[u8]) -> Result<usize, Failed> {
+        if self.calls.next_fails() || !self.shelf.write(self.numbers.name(file), piece) {
+            self.write_faults = self.write_faults.saturating_add(1);
+            return Err(Failed);
+        }
+        Ok(piece.len())
+    }
+
+    fn flush(&mut self, file: u32) -> Result<(), Failed> {
+        if self.calls.next_fails() {
+            self.write_faults = self.write_faults.saturating_add(1);
+            return Err(Failed);
+        }
+        self.shelf.flush(self.numbers.name(file));
+        Ok(())
+    }
+
+    fn close(&mut self, file: u32) {
+        self.numbers.close(file);
+    }
+}
