@@ -1,0 +1,12 @@
+//! Instructions of BPF as RFC 9669 defines them, read from bytes and written as bytes by one table of their forms.
+#![tactic(auto)]
+
+mod insn;
+mod operation;
+mod table;
+
+pub use insn::{Insn, InsnList};
+pub use operation::{
+    Arithmetic, Atomic, ByteOrder, Comparison, Distance, Narrow, Operand, Operation, Size, Width,
+};
+pub use table::{Form, INSTRUCTIONS, ImmRule, OffsetRule, Table};
