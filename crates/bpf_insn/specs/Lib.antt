@@ -1,1 +1,3 @@
 pub mod Operation
+pub mod Form
+pub mod Code

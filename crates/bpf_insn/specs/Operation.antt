@@ -1,5 +1,5 @@
 -- Opcodes of RFC 9669: five bits that say what is done, above three bits of class (§3.1).
-use Rattle.std.specs.Prelude.{ℕ, ◌+◌, ◌*◌, Bool, true, false}
+use Rattle.std.specs.Prelude.{◌≡◌, ℕ, ◌+◌, ◌*◌, ⊤}
 use Rattle.bpf_insn.specs.declared.operation.Width.{Width}
 use Rattle.bpf_insn.specs.declared.operation.Width.TheVariants.{Bits32, Bits64}
 use Rattle.bpf_insn.specs.declared.operation.Operand.{Operand}
@@ -129,3 +129,21 @@ specific_of LoadWide = 4 * 0 + 3
 
 abbrev pub opcode_of : Operation → ℕ
 opcode_of operation = 8 * specific_of operation + class_of operation
+
+-- the operation puts the old value into the source register
+abbrev pub IsSourceWritten : Atomic → Type 0
+IsSourceWritten atomic.Add = ⊥
+IsSourceWritten atomic.Or = ⊥
+IsSourceWritten atomic.And = ⊥
+IsSourceWritten atomic.Xor = ⊥
+IsSourceWritten atomic.CompareExchange = ⊥
+IsSourceWritten atomic.FetchAdd = ⊤
+IsSourceWritten atomic.FetchOr = ⊤
+IsSourceWritten atomic.FetchAnd = ⊤
+IsSourceWritten atomic.FetchXor = ⊤
+IsSourceWritten atomic.Exchange = ⊤
+
+-- the class and the five bits above it are those of the operation
+pub record IsOpcode (class specific : ℕ) (operation : Operation) : Type 0 where
+  pub class_is : class_of operation ≡ class
+  pub specific_is : specific_of operation ≡ specific

@@ -9,4 +9,4 @@ pub use insn::{Insn, InsnList};
 pub use operation::{
     Arithmetic, Atomic, ByteOrder, Comparison, Distance, Narrow, Operand, Operation, Size, Width,
 };
-pub use table::{Form, INSTRUCTIONS, ImmRule, OffsetRule, Table};
+pub use table::{Form, ImmRule, OffsetRule, Table, instructions, rows_apart};

@@ -1,6 +1,5 @@
-
-
-
+ghost use Rattle.std.specs.Prelude.{◌≡◌, ◌≢◌, ◌<◌, ◌↔◌, pos, IfSome, IfNone, IsTrue};
+ghost use Rattle.bpf_insn.specs.Operation.{source_bit, arithmetic_code, comparison_code, size_code, narrow_code, atomic_code, IsSourceWritten, alu_class, jump_class, opcode_of, IsOpcode};
 
 /// How many bits an operation works on.
 #[derive(Clone, Copy, Debug, PartialEq, Eq)]
@@ -137,4 +136,265 @@ pub enum Atomic {
     FetchXor,
     Exchange,
     CompareExchange,
+}
+
+impl Arithmetic {
+    /// The arithmetic of a code (RFC 9669 §4.1).
+    fn from_code(code: u8) -> Option<Self>
+        ensures found { IfSome result (λ op. arithmetic_code op ≡ code) }
+        ensures none { IfNone result ((op : Arithmetic) → arithmetic_code op ≢ code) }
+    {
+        match code {
+            0x0 => Some(Arithmetic::Add),
+            0x1 => Some(Arithmetic::Sub),
+            0x2 => Some(Arithmetic::Mul),
+            0x3 => Some(Arithmetic::Div),
+            0x4 => Some(Arithmetic::Or),
+            0x5 => Some(Arithmetic::And),
+            0x6 => Some(Arithmetic::Lsh),
+            0x7 => Some(Arithmetic::Rsh),
+            0x9 => Some(Arithmetic::Mod),
+            0xa => Some(Arithmetic::Xor),
+            0xb => Some(Arithmetic::Mov),
+            0xc => Some(Arithmetic::Arsh),
+            _ => None,
+        }
+    }
+}
+
+impl Comparison {
+    /// The test of a code (RFC 9669 §4.3).
+    fn from_code(code: u8) -> Option<Self>
+        ensures found { IfSome result (λ test. comparison_code test ≡ code) }
+        ensures none { IfNone result ((test : Comparison) → comparison_code test ≢ code) }
+    {
+        match code {
+            0x1 => Some(Comparison::Eq),
+            0x2 => Some(Comparison::Gt),
+            0x3 => Some(Comparison::Ge),
+            0x4 => Some(Comparison::Set),
+            0x5 => Some(Comparison::Ne),
+            0x6 => Some(Comparison::Sgt),
+            0x7 => Some(Comparison::Sge),
+            0xa => Some(Comparison::Lt),
+            0xb => Some(Comparison::Le),
+            0xc => Some(Comparison::Slt),
+            0xd => Some(Comparison::Sle),
+            _ => None,
+        }
+    }
+}
+
+impl Operand {
+    /// The operand by the source bit (RFC 9669 §4).
+    fn from_bit(bit: u8) -> Self
+        requires { bit < 2 }
+        ensures { source_bit result ≡ bit }
+    {
+        if bit == 0 {
+            Operand::Imm
+        } else {
+            Operand::Register
+        }
+    }
+}
+
+impl Size {
+    /// The size of a code (RFC 9669 §5).
+    fn from_code(code: u8) -> Self
+        requires { code < 4 }
+        ensures { size_code result ≡ code }
+    {
+        match code {
+            0 => Size::Word,
+            1 => Size::Half,
+            2 => Size::Byte,
+            _ => Size::Double,
+        }
+    }
+}
+
+impl Narrow {
+    /// The size of a code (RFC 9669 §5.2).
+    fn from_code(code: u8) -> Option<Self>
+        ensures found { IfSome result (λ size. narrow_code size ≡ code) }
+        ensures none { IfNone result ((size : Narrow) → narrow_code size ≢ code) }
+    {
+        match code {
+            0 => Some(Narrow::Word),
+            1 => Some(Narrow::Half),
+            2 => Some(Narrow::Byte),
+            _ => None,
+        }
+    }
+}
+
+impl Atomic {
+    /// The operation of an immediate (RFC 9669 §5.3).
+    pub fn from_imm(imm: i32) -> Option<Self>
+        ensures found { IfSome result (λ op. pos (atomic_code op) ≡ imm) }
+        ensures none { IfNone result ((op : Atomic) → pos (atomic_code op) ≢ imm) }
+    {
+        match imm {
+            0x00 => Some(Atomic::Add),
+            0x40 => Some(Atomic::Or),
+            0x50 => Some(Atomic::And),
+            0xa0 => Some(Atomic::Xor),
+            0x01 => Some(Atomic::FetchAdd),
+            0x41 => Some(Atomic::FetchOr),
+            0x51 => Some(Atomic::FetchAnd),
+            0xa1 => Some(Atomic::FetchXor),
+            0xe1 => Some(Atomic::Exchange),
+            0xf1 => Some(Atomic::CompareExchange),
+            _ => None,
+        }
+    }
+
+    /// Whether the old value is put into the source register.
+    pub fn writes_source(self) -> bool
+        ensures { IsTrue result ↔ IsSourceWritten self }
+    {
+        match self {
+            Atomic::Add | Atomic::Or | Atomic::And | Atomic::Xor | Atomic::CompareExchange => false,
+            Atomic::FetchAdd
+            | Atomic::FetchOr
+            | Atomic::FetchAnd
+            | Atomic::FetchXor
+            | Atomic::Exchange => true,
+        }
+    }
+}
+
+impl Operation {
+    /// What the instructions of an opcode do, where there are such instructions.
+    pub fn from_opcode(opcode: u8) -> Option<Self>
+        ensures found { IfSome result (λ operation. opcode_of operation ≡ opcode) }
+        ensures none { IfNone result ((operation : Operation) → opcode_of operation ≢ opcode) }
+    {
+        let specific = opcode / 8;
+        match opcode % 8 {
+            0 => wide_load(specific),
+            1 => load(specific),
+            2 => store(specific),
+            3 => store_register(specific),
+            4 => alu(Width::Bits32, specific),
+            5 => jump(Width::Bits64, specific),
+            6 => jump(Width::Bits32, specific),
+            _ => alu(Width::Bits64, specific),
+        }
+    }
+}
+
+/// Operations of class 0.
+fn wide_load(specific: u8) -> Option<Operation>
+    requires { specific < 32 }
+    ensures found { IfSome result (IsOpcode 0 specific) }
+    ensures none { IfNone result ((o : Operation) → ¬ IsOpcode 0 specific o) }
+{
+    if specific == 3 {
+        Some(Operation::LoadWide)
+    } else {
+        None
+    }
+}
+
+/// Operations of class 1.
+fn load(specific: u8) -> Option<Operation>
+    requires { specific < 32 }
+    ensures found { IfSome result (IsOpcode 1 specific) }
+    ensures none { IfNone result ((o : Operation) → ¬ IsOpcode 1 specific o) }
+{
+    match specific / 4 {
+        3 => Some(Operation::Load {
+            size: Size::from_code(specific % 4),
+        }),
+        4 => Some(Operation::LoadSigned {
+            size: Narrow::from_code(specific % 4)?,
+        }),
+        _ => None,
+    }
+}
+
+/// Operations of class 2.
+fn store(specific: u8) -> Option<Operation>
+    requires { specific < 32 }
+    ensures found { IfSome result (IsOpcode 2 specific) }
+    ensures none { IfNone result ((o : Operation) → ¬ IsOpcode 2 specific o) }
+{
+    match specific / 4 {
+        3 => Some(Operation::Store {
+            size: Size::from_code(specific % 4),
+            operand: Operand::Imm,
+        }),
+        _ => None,
+    }
+}
+
+/// Operations of class 3.
+fn store_register(specific: u8) -> Option<Operation>
+    requires { specific < 32 }
+    ensures found { IfSome result (IsOpcode 3 specific) }
+    ensures none { IfNone result ((o : Operation) → ¬ IsOpcode 3 specific o) }
+{
+    match specific {
+        12..=15 => Some(Operation::Store {
+            size: Size::from_code(specific % 4),
+            operand: Operand::Register,
+        }),
+        24 => Some(Operation::Atomic {
+            width: Width::Bits32,
+        }),
+        27 => Some(Operation::Atomic {
+            width: Width::Bits64,
+        }),
+        _ => None,
+    }
+}
+
+/// Operations of the class of arithmetic of a width.
+fn alu(width: Width, specific: u8) -> Option<Operation>
+    requires { specific < 32 }
+    ensures found { IfSome result (IsOpcode (alu_class width) specific) }
+    ensures none { IfNone result ((o : Operation) → ¬ IsOpcode (alu_class width) specific o) }
+{
+    match (specific, width) {
+        (16, _) => Some(Operation::Neg { width }),
+        (26, Width::Bits32) => Some(Operation::End {
+            order: ByteOrder::ToLittle,
+        }),
+        (27, Width::Bits32) => Some(Operation::End {
+            order: ByteOrder::ToBig,
+        }),
+        (26, Width::Bits64) => Some(Operation::End {
+            order: ByteOrder::Swap,
+        }),
+        _ => Some(Operation::Alu {
+            width,
+            op: Arithmetic::from_code(specific / 2)?,
+            operand: Operand::from_bit(specific % 2),
+        }),
+    }
+}
+
+/// Operations of the class of jumps of a width.
+fn jump(width: Width, specific: u8) -> Option<Operation>
+    requires { specific < 32 }
+    ensures found { IfSome result (IsOpcode (jump_class width) specific) }
+    ensures none { IfNone result ((o : Operation) → ¬ IsOpcode (jump_class width) specific o) }
+{
+    match (specific, width) {
+        (0, Width::Bits64) => Some(Operation::Jump {
+            distance: Distance::Offset,
+        }),
+        (0, Width::Bits32) => Some(Operation::Jump {
+            distance: Distance::Imm,
+        }),
+        (16, Width::Bits64) => Some(Operation::Call),
+        (18, Width::Bits64) => Some(Operation::Exit),
+        _ => Some(Operation::Branch {
+            width,
+            test: Comparison::from_code(specific / 2)?,
+            operand: Operand::from_bit(specific % 2),
+        }),
+    }
 }
