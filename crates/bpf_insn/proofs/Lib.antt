@@ -1,2 +1,4 @@
 pub mod Apart
 pub mod Rows
+pub mod Slots
+pub mod Pieces

@@ -4,7 +4,7 @@ use Rattle.std.specs.Prelude.{◌==◌, All, AllPairs, Contains, IfSome}
 use Rattle.std.specs.List.{find}
 use Rattle.bpf_insn.specs.declared.operation.Arithmetic.{Arithmetic}
 use Rattle.bpf_insn.specs.declared.operation.Arithmetic.TheVariants.{Add, Sub, Mul, Div, Or, And, Lsh, Rsh, Mod, Xor, Mov, Arsh}
-use Rattle.bpf_insn.specs.declared.operation.ByteOrder.TheVariants.{ToLittle, ToBig, Swap}
+use Rattle.bpf_insn.specs.declared.operation.Order.TheVariants.{ToLittle, ToBig, Swap}
 use Rattle.bpf_insn.specs.declared.operation.Comparison.{Comparison}
 use Rattle.bpf_insn.specs.declared.operation.Comparison.TheVariants.{Eq, Gt, Ge, Set, Ne, Sgt, Sge, Lt, Le, Slt, Sle}
 use Rattle.bpf_insn.specs.declared.operation.Distance.TheVariants as distance

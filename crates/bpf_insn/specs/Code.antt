@@ -1,15 +1,17 @@
 -- Bytes as instructions: slots of 8 bytes, two for a wide load (RFC 9669 §3.1 and §5.4).
-use Rattle.std.specs.Prelude.{◌≡◌, ◌≢◌, ◌<◌, ◌+◌, ◌*◌, ◌/◌, ◌%◌, ◌==◌, ℕ, List, [], ◌∷◌, ◌++◌, length, take, drop, slice_index, if◌then◌else◌, true, false, Result, Ok, Err, AllPairs, Bool}
-use Rattle.std.specs.Int.{w16, w32, cast_signed}
+use Rattle.std.specs.Prelude.{◌≡◌, ◌≢◌, ◌<◌, ◌+◌, ◌*◌, ◌/◌, ◌%◌, ◌==◌, ℕ, List, [], ◌∷◌, ◌++◌, length, take, drop, slice_index, if◌then◌else◌, true, false, Result, Ok, Err, AllPairs, Bool, ⊤}
+use Rattle.std.specs.Int.{w16, w32, cast_signed, cast_unsigned}
 use Rattle.std.specs.List.{concat, flat_map, AllByRecursion}
-use Rattle.byteorder.specs.Endian.{little_from}
+use Rattle.byteorder.specs.Endian.{little_from, little_bytes}
+use Rattle.bpf_insn.specs.declared.decoding.DecodeEnd.{DecodeEnd}
+use Rattle.bpf_insn.specs.declared.decoding.DecodeEnd.TheVariants.{BadInsn, OutOfMemory}
 use Rattle.bpf_insn.specs.declared.insn.Insn.{Insn}
 use Rattle.bpf_insn.specs.declared.operation.Operation.{Operation}
 use Rattle.bpf_insn.specs.declared.table.Form.{Form}
 use Rattle.bpf_insn.specs.Form.{form_of, half_form, Fits}
 
 -- RFC 9669 §3.1: the fields of the slot at the front of the bytes, little endian
-abbrev pub slot : List ℕ → Insn
+unfoldable pub slot : List ℕ → Insn
 slot bytes = record {
   opcode = slice_index bytes 0;
   target = slice_index bytes 1 % 16;
@@ -21,6 +23,10 @@ slot bytes = record {
 
 abbrev pub half_of : Insn → Insn
 half_of insn = record insn { half = true }
+
+-- some row of the table fits
+abbrev pub IsListed : Insn → Type 0
+IsListed insn = (operation : Operation) × Fits (form_of operation) insn
 
 -- what a form takes: a slot of 8 bytes, and for a wide load the next slot too
 pub record Takes (form : Form) (bytes : List ℕ) : Type 0 where
@@ -49,6 +55,23 @@ abbrev pub Decodes : List ℕ → Result (List Insn) ℕ → Type 0
 Decodes bytes (Ok insns) = (split : Split bytes) × (split.rest ≡ []) × (insns ≡ flat_map insns_of split.pieces)
 Decodes bytes (Err index) = (split : Split bytes) × (split.rest ≢ []) × (index ≡ length (flat_map insns_of split.pieces))
 
+-- what a decoder gives, which may want memory
+abbrev pub IsDecoded : List ℕ → Result (List Insn) DecodeEnd → Type 0
+IsDecoded bytes (Ok insns) = Decodes bytes (Ok insns)
+IsDecoded bytes (Err (BadInsn index)) = Decodes bytes (Err index)
+IsDecoded bytes (Err OutOfMemory) = ⊤
+
+-- the decoder gave this, unless it wanted memory
+abbrev pub Gives : Result (List Insn) DecodeEnd → Result (List Insn) ℕ → Type 0
+Gives (Ok insns) answer = answer ≡ Ok insns
+Gives (Err (BadInsn index)) answer = answer ≡ Err index
+Gives (Err OutOfMemory) answer = ⊤
+
+-- the slot of an instruction, as `slot` reads it
+unfoldable pub slot_bytes : Insn → List ℕ
+slot_bytes insn =
+    insn.opcode ∷ (insn.source * 16 + insn.target) ∷ (little_bytes 2 (cast_unsigned w16 insn.offset) ++ little_bytes 4 (cast_unsigned w32 insn.imm))
+
 -- the rows of a table ascend by opcode, and no bytes are taken by two of them
 pub record AreApart (rows : List Form) : Type 0 where
   pub ascending : AllPairs (λ a b. a.opcode < b.opcode) rows
@@ -59,7 +82,7 @@ pub record AreApart (rows : List Form) : Type 0 where
 abbrev pub Continues : Bool → List Insn → Type 0
 Continues wide [] = wide ≡ false
 Continues true (insn ∷ insns) = (insn.half ≡ true) × Fits half_form insn × Continues false insns
-Continues false (insn ∷ insns) = (insn.half ≡ false) × ((operation : Operation) × Fits (form_of operation) insn) × Continues (insn.opcode == 0x18) insns
+Continues false (insn ∷ insns) = (insn.half ≡ false) × IsListed insn × Continues (insn.opcode == 0x18) insns
 
 abbrev pub IsCode : List Insn → Type 0
 IsCode insns = Continues false insns

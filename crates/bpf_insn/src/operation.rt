@@ -51,7 +51,7 @@ pub enum Comparison {
 
 /// The order that the low bytes of a register are put into, as many bits of them as the immediate says (RFC 9669 §4.2).
 #[derive(Clone, Copy, Debug, PartialEq, Eq)]
-pub enum ByteOrder {
+pub enum Order {
     ToLittle,
     ToBig,
     Swap,
@@ -93,7 +93,7 @@ pub enum Operation {
         width: Width,
     },
     End {
-        order: ByteOrder,
+        order: Order,
     },
     Jump {
         distance: Distance,
@@ -360,13 +360,13 @@ fn alu(width: Width, specific: u8) -> Option<Operation>
     match (specific, width) {
         (16, _) => Some(Operation::Neg { width }),
         (26, Width::Bits32) => Some(Operation::End {
-            order: ByteOrder::ToLittle,
+            order: Order::ToLittle,
         }),
         (27, Width::Bits32) => Some(Operation::End {
-            order: ByteOrder::ToBig,
+            order: Order::ToBig,
         }),
         (26, Width::Bits64) => Some(Operation::End {
-            order: ByteOrder::Swap,
+            order: Order::Swap,
         }),
         _ => Some(Operation::Alu {
             width,

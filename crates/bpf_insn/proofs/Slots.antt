@@ -1,0 +1,98 @@
+-- One slot: the bytes that it depends on, and what is read of what was written.
+use Rattle.std.proofs.Common.{◌≡◌, ◌<◌, ◌≤◌, ◌+◌, ◌*◌, ◌/◌, ◌%◌, ◌^◌, ◌-◌, ℕ, zero, suc, List, [], ◌∷◌, ◌++◌, length, get_or, take, drop, refl, sym, ap, ◌∙◌, arith, false, true, lit<, lit≤, inl, inr}
+use Rattle.std.specs.Prelude.{ℤ, pos, negsuc, slice_index, IsBitSet, bit_and, FitsSigned}
+use mir.Val.{bits, hbits}
+use Rattle.std.specs.Int.{Width, w16, w32, cast_signed, cast_unsigned, bit_at}
+use Rattle.std.proofs.lemmas.Bool.{cases_lt}
+use Rattle.std.proofs.lemmas.List.{get_or-take, get_or-drop, take_rest}
+use Rattle.std.proofs.lemmas.Int.{to_z-of_z}
+use Rattle.std.proofs.lemmas.Nat.Bits.{and_pow}
+use Rattle.std.proofs.Math.Pow.{pow_mono}
+use Rattle.std.proofs.Math.Nat.{div-eq_of_lt}
+use Rattle.byteorder.specs.Endian.{little_from, little_number, little_bytes}
+use Rattle.byteorder.specs.Numbers.{little_from-take, little_number-reads_back}
+use Rattle.bpf_insn.specs.declared.insn.Insn.{Insn}
+use Rattle.bpf_insn.specs.Code.{slot, slot_bytes}
+
+-- the number in n bytes from place i on
+little_from-drop : (k i n : ℕ) (xs : List ℕ) → little_from i n (drop k xs) ≡ little_from (k + i) n xs
+little_from-drop k i zero xs = refl
+little_from-drop k i (suc n) xs =
+    let byte = get_or-drop k xs i 0 in
+    let rest = little_from-drop k (suc i) n xs in
+    let moved : k + suc i ≡ suc (k + i) = omega arith in
+    rw (byte, rest, moved) refl
+
+fields : ℕ → ℕ → ℕ → ℕ → Insn
+fields opcode registers offset imm = record {
+  opcode = opcode;
+  target = registers % 16;
+  source = registers / 16;
+  offset = cast_signed w16 offset;
+  imm = cast_signed w32 imm;
+  half = false;
+}
+
+slot-fields : (xs : List ℕ) → slot xs ≡ fields (get_or xs 0 0) (get_or xs 1 0) (little_from 2 2 xs) (little_from 4 4 xs)
+unfolding slot fields
+slot-fields xs = refl
+
+-- a slot is in the first eight bytes
+pub slot-take : (n : ℕ) (xs : List ℕ) → 8 ≤ n → slot (take n xs) ≡ slot xs
+slot-take n xs h =
+    let opcode = get_or-take n xs 0 0 (omega arith) in
+    let registers = get_or-take n xs 1 0 (omega arith) in
+    let offset = little_from-take 2 2 n xs (omega arith) in
+    let imm = little_from-take 4 4 n xs (omega arith) in
+    let front = slot-fields (take n xs) in
+    let whole = slot-fields xs in
+    cc
+
+-- a signed number that is read from place k on
+pub number_read : (w : Width) (k n : ℕ) (xs : List ℕ) (z : ℤ) → FitsSigned w z → z ≡ cast_signed w (little_number n (take (length xs - k) (drop k xs))) → cast_signed w (cast_unsigned w z) ≡ cast_signed w (little_from k n xs)
+number_read w k n xs z fits e =
+    let there : k + 0 ≡ k = omega arith in
+    to_z-of_z w z fits ∙ e ∙ ap (λ ys. cast_signed w (little_number n ys)) (take_rest xs k) ∙ ap (cast_signed w) (little_from-drop k 0 n xs) ∙ ap (λ i. cast_signed w (little_from i n xs)) there
+
+-- a slot from its fields
+pub slot_made : (xs : List ℕ) (offset imm : ℤ) → offset ≡ cast_signed w16 (little_from 2 2 xs) → imm ≡ cast_signed w32 (little_from 4 4 xs) →
+    slot xs ≡ record { opcode = get_or xs 0 0; target = get_or xs 1 0 % 16; source = get_or xs 1 0 / 16; offset = offset; imm = imm; half = false }
+unfolding slot
+slot_made xs offset imm low high = cc
+
+-- a set bit of a number below 2 ^ k has a place below k
+pub bit_below : (k n i : ℕ) → n < 2 ^ k → IsBitSet n i → i < k
+bit_below k n i fits is_set =
+    elim (cases_lt i k) [
+      inl below ↦ below
+      | inr above ↦ (
+        let power : 2 ^ k ≤ 2 ^ i = pow_mono above in
+        let none : n / 2 ^ i ≡ 0 = div-eq_of_lt (omega arith) in
+        let bit : bit_at n i ≡ 0 = ap (λ q. q % 2) none in
+        let zero_bits : bit_and n (2 ^ i) ≡ 0 = and_pow n i ∙ ap (λ b. b * 2 ^ i) bit ∙ (omega arith) in
+        absurd (is_set zero_bits)
+      )
+    ]
+
+-- the bits of a signed number
+bits_fit : (w : Width) (z : ℤ) → FitsSigned w z → 0 < 2 ^ bits w → 2 ^ hbits w ≤ 2 ^ bits w → cast_unsigned w z < 2 ^ bits w
+bits_fit w (pos n) fits whole half = let f : n < 2 ^ hbits w = fits.sfits in omega arith
+bits_fit w (negsuc n) fits whole half = omega arith
+
+pub offset_written : (z : ℤ) (rest : List ℕ) → FitsSigned w16 z → cast_signed w16 (little_from 0 2 (little_bytes 2 (cast_unsigned w16 z) ++ rest)) ≡ z
+offset_written z rest fits =
+    ap (cast_signed w16) (little_number-reads_back 2 (cast_unsigned w16 z) rest (bits_fit w16 z fits (lit< tt) (lit≤ tt))) ∙ to_z-of_z w16 z fits
+
+pub imm_written : (z : ℤ) (rest : List ℕ) → FitsSigned w32 z → cast_signed w32 (little_from 0 4 (little_bytes 4 (cast_unsigned w32 z) ++ rest)) ≡ z
+imm_written z rest fits =
+    ap (cast_signed w32) (little_number-reads_back 4 (cast_unsigned w32 z) rest (bits_fit w32 z fits (lit< tt) (lit≤ tt))) ∙ to_z-of_z w32 z fits
+
+-- what is written is read
+pub slot-slot_bytes : (insn : Insn) (rest : List ℕ) → insn.target < 16 → FitsSigned w16 insn.offset → FitsSigned w32 insn.imm → slot (slot_bytes insn ++ rest) ≡ record insn { half = false }
+unfolding slot slot_bytes
+slot-slot_bytes insn rest target offset imm =
+    let low : (insn.source * 16 + insn.target) % 16 ≡ insn.target = omega arith in
+    let high : (insn.source * 16 + insn.target) / 16 ≡ insn.source = omega arith in
+    let offset_is = offset_written insn.offset (little_bytes 4 (cast_unsigned w32 insn.imm) ++ rest) offset in
+    let imm_is = imm_written insn.imm rest imm in
+    cc
