@@ -2,7 +2,7 @@
 use Rattle.std.proofs.Common.{◌≡◌, ◌<◌, ◌≤◌, ◌+◌, ◌*◌, ◌/◌, ◌%◌, ◌^◌, ◌-◌, ℕ, zero, suc, List, [], ◌∷◌, ◌++◌, length, get_or, take, drop, refl, sym, ap, ◌∙◌, arith, false, true, lit<, lit≤, inl, inr}
 use Rattle.std.specs.Prelude.{ℤ, pos, negsuc, slice_index, IsBitSet, bit_and, FitsSigned}
 use mir.Val.{bits, hbits}
-use Rattle.std.specs.Int.{Width, w16, w32, cast_signed, cast_unsigned, bit_at}
+use Rattle.std.specs.Int.{Width, w16, w32, cast_signed, cast_unsigned, bit_at, to_le_bytes}
 use Rattle.std.proofs.lemmas.Bool.{cases_lt}
 use Rattle.std.proofs.lemmas.List.{get_or-take, get_or-drop, take_rest}
 use Rattle.std.proofs.lemmas.Int.{to_z-of_z}
@@ -95,4 +95,15 @@ slot-slot_bytes insn rest target offset imm =
     let high : (insn.source * 16 + insn.target) / 16 ≡ insn.source = omega arith in
     let offset_is = offset_written insn.offset (little_bytes 4 (cast_unsigned w32 insn.imm) ++ rest) offset in
     let imm_is = imm_written insn.imm rest imm in
+    cc
+
+-- a slot that is written byte by byte
+pub slot_written : (insn : Insn) (offset imm : List ℕ) → FitsSigned w16 insn.offset → FitsSigned w32 insn.imm
+    → offset ≡ to_le_bytes w16 (cast_unsigned w16 (cast_signed w16 (cast_unsigned w16 insn.offset)))
+    → imm ≡ to_le_bytes w32 (cast_unsigned w32 (cast_signed w32 (cast_unsigned w32 insn.imm)))
+    → insn.opcode ∷ (insn.source * 16 + insn.target) ∷ get_or offset 0 0 ∷ get_or offset 1 0 ∷ get_or imm 0 0 ∷ get_or imm 1 0 ∷ get_or imm 2 0 ∷ get_or imm 3 0 ∷ [] ≡ slot_bytes insn
+unfolding slot_bytes
+slot_written insn offset imm offset_fits imm_fits offset_is imm_is =
+    let low = to_z-of_z w16 insn.offset offset_fits in
+    let high = to_z-of_z w32 insn.imm imm_fits in
     cc

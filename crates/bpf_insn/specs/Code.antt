@@ -1,5 +1,5 @@
 -- Bytes as instructions: slots of 8 bytes, two for a wide load (RFC 9669 §3.1 and §5.4).
-use Rattle.std.specs.Prelude.{◌≡◌, ◌≢◌, ◌<◌, ◌+◌, ◌*◌, ◌/◌, ◌%◌, ◌==◌, ℕ, List, [], ◌∷◌, ◌++◌, length, take, drop, slice_index, if◌then◌else◌, true, false, Result, Ok, Err, AllPairs, Bool, ⊤}
+use Rattle.std.specs.Prelude.{◌≡◌, ◌≢◌, ◌<◌, ◌≤◌, ◌+◌, ◌*◌, ◌/◌, ◌%◌, ◌==◌, ℕ, List, [], ◌∷◌, ◌++◌, length, take, drop, slice_index, if◌then◌else◌, true, false, Result, Ok, Err, AllPairs, Bool, ⊤}
 use Rattle.std.specs.Int.{w16, w32, cast_signed, cast_unsigned}
 use Rattle.std.specs.List.{concat, flat_map, AllByRecursion}
 use Rattle.byteorder.specs.Endian.{little_from, little_bytes}
@@ -83,6 +83,10 @@ abbrev pub Continues : Bool → List Insn → Type 0
 Continues wide [] = wide ≡ false
 Continues true (insn ∷ insns) = (insn.half ≡ true) × Fits half_form insn × Continues false insns
 Continues false (insn ∷ insns) = (insn.half ≡ false) × IsListed insn × Continues (insn.opcode == 0x18) insns
+
+-- the registers are r0 to r10
+abbrev pub HasRegisters : Insn → Type 0
+HasRegisters insn = (insn.target ≤ 10) × (insn.source ≤ 10)
 
 abbrev pub IsCode : List Insn → Type 0
 IsCode insns = Continues false insns

@@ -1,7 +1,7 @@
-ghost use Rattle.std.specs.Prelude.{◌≡◌, ◌≤◌, ◌<◌, ◌↔◌, ◌⊎◌, ◌++◌, ℕ, List, length, take, Result, Ok, Err, IsTrue, IfOk, IfSome, IfNone, OnOk};
+ghost use Rattle.std.specs.Prelude.{◌≡◌, ◌≤◌, ◌<◌, ◌↔◌, ◌⊎◌, ◌++◌, ℕ, List, length, take, Result, Ok, Err, IsTrue, IfOk, IfSome, IfNone, OnOk, All};
 ghost use Rattle.bpf_insn.specs.declared.insn.Insn.{Insn};
 ghost use Rattle.bpf_insn.specs.Form.{half_form, Fits};
-ghost use Rattle.bpf_insn.specs.Code.{slot, IsListed, IsPiece, insns_of, Decodes, IsDecoded, Gives};
+ghost use Rattle.bpf_insn.specs.Code.{slot, IsListed, IsPiece, insns_of, Decodes, IsDecoded, Gives, IsCode, HasRegisters};
 
 use crate::insn::{Insn, InsnList};
 use crate::table::{HALF, form_at};
@@ -33,6 +33,8 @@ const WIDE_LOAD: u8 = 0x18;
 /// The instructions of the bytes, slot by slot.
 pub fn decode(alloc: Global, bytes: &[u8]) -> Result<InsnList, DecodeEnd>
     ensures exact { IsDecoded bytes.now result }
+    ensures code { IfOk result IsCode }
+    ensures registers { IfOk result (All HasRegisters) }
     ensures only { (answer : Result (List Insn) ℕ) → Decodes bytes.now answer → Gives result answer }
 {
     pieces(alloc, bytes)
@@ -61,8 +63,9 @@ fn push_piece(insns: &mut InsnList, piece: &[u8]) -> Result<(), OutOfMemory>
 {
     insns.push(slot_at(piece))?;
     if piece.len() > 8 {
-        let half = slot_at(&piece[8..]);
-        insns.push(Insn { half: true, ..half })?;
+        let mut half = slot_at(&piece[8..]);
+        half.half = true;
+        insns.push(half)?;
     }
     Ok(())
 }
