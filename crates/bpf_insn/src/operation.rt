@@ -1,4 +1,4 @@
-ghost use Rattle.std.specs.Prelude.{◌≡◌, ◌≢◌, ◌<◌, ◌↔◌, pos, IfSome, IfNone, IsTrue};
+ghost use Rattle.std.specs.Prelude.{◌≡◌, ◌<◌, ◌↔◌, pos, IfSome, IsTrue, Some};
 ghost use Rattle.bpf_insn.specs.Operation.{source_bit, arithmetic_code, comparison_code, size_code, narrow_code, atomic_code, IsSourceWritten, alu_class, jump_class, opcode_of, IsOpcode};
 
 /// How many bits an operation works on.
@@ -142,7 +142,7 @@ impl Arithmetic {
     /// The arithmetic of a code (RFC 9669 §4.1).
     fn from_code(code: u8) -> Option<Self>
         ensures found { IfSome result (λ op. arithmetic_code op ≡ code) }
-        ensures none { IfNone result ((op : Arithmetic) → arithmetic_code op ≢ code) }
+        ensures only { (op : Arithmetic) → arithmetic_code op ≡ code → result ≡ Some op }
     {
         match code {
             0x0 => Some(Arithmetic::Add),
@@ -166,7 +166,7 @@ impl Comparison {
     /// The test of a code (RFC 9669 §4.3).
     fn from_code(code: u8) -> Option<Self>
         ensures found { IfSome result (λ test. comparison_code test ≡ code) }
-        ensures none { IfNone result ((test : Comparison) → comparison_code test ≢ code) }
+        ensures only { (test : Comparison) → comparison_code test ≡ code → result ≡ Some test }
     {
         match code {
             0x1 => Some(Comparison::Eq),
@@ -218,7 +218,7 @@ impl Narrow {
     /// The size of a code (RFC 9669 §5.2).
     fn from_code(code: u8) -> Option<Self>
         ensures found { IfSome result (λ size. narrow_code size ≡ code) }
-        ensures none { IfNone result ((size : Narrow) → narrow_code size ≢ code) }
+        ensures only { (size : Narrow) → narrow_code size ≡ code → result ≡ Some size }
     {
         match code {
             0 => Some(Narrow::Word),
@@ -233,7 +233,7 @@ impl Atomic {
     /// The operation of an immediate (RFC 9669 §5.3).
     pub fn from_imm(imm: i32) -> Option<Self>
         ensures found { IfSome result (λ op. pos (atomic_code op) ≡ imm) }
-        ensures none { IfNone result ((op : Atomic) → pos (atomic_code op) ≢ imm) }
+        ensures only { (op : Atomic) → pos (atomic_code op) ≡ imm → result ≡ Some op }
     {
         match imm {
             0x00 => Some(Atomic::Add),
@@ -269,7 +269,7 @@ impl Operation {
     /// What the instructions of an opcode do, where there are such instructions.
     pub fn from_opcode(opcode: u8) -> Option<Self>
         ensures found { IfSome result (λ operation. opcode_of operation ≡ opcode) }
-        ensures none { IfNone result ((operation : Operation) → opcode_of operation ≢ opcode) }
+        ensures only { (operation : Operation) → opcode_of operation ≡ opcode → result ≡ Some operation }
     {
         let specific = opcode / 8;
         match opcode % 8 {
@@ -289,7 +289,7 @@ impl Operation {
 fn wide_load(specific: u8) -> Option<Operation>
     requires { specific < 32 }
     ensures found { IfSome result (IsOpcode 0 specific) }
-    ensures none { IfNone result ((o : Operation) → ¬ IsOpcode 0 specific o) }
+    ensures only { (operation : Operation) → IsOpcode 0 specific operation → result ≡ Some operation }
 {
     if specific == 3 {
         Some(Operation::LoadWide)
@@ -302,7 +302,7 @@ fn wide_load(specific: u8) -> Option<Operation>
 fn load(specific: u8) -> Option<Operation>
     requires { specific < 32 }
     ensures found { IfSome result (IsOpcode 1 specific) }
-    ensures none { IfNone result ((o : Operation) → ¬ IsOpcode 1 specific o) }
+    ensures only { (operation : Operation) → IsOpcode 1 specific operation → result ≡ Some operation }
 {
     match specific / 4 {
         3 => Some(Operation::Load {
@@ -319,7 +319,7 @@ fn load(specific: u8) -> Option<Operation>
 fn store(specific: u8) -> Option<Operation>
     requires { specific < 32 }
     ensures found { IfSome result (IsOpcode 2 specific) }
-    ensures none { IfNone result ((o : Operation) → ¬ IsOpcode 2 specific o) }
+    ensures only { (operation : Operation) → IsOpcode 2 specific operation → result ≡ Some operation }
 {
     match specific / 4 {
         3 => Some(Operation::Store {
@@ -334,7 +334,7 @@ fn store(specific: u8) -> Option<Operation>
 fn store_register(specific: u8) -> Option<Operation>
     requires { specific < 32 }
     ensures found { IfSome result (IsOpcode 3 specific) }
-    ensures none { IfNone result ((o : Operation) → ¬ IsOpcode 3 specific o) }
+    ensures only { (operation : Operation) → IsOpcode 3 specific operation → result ≡ Some operation }
 {
     match specific {
         12..=15 => Some(Operation::Store {
@@ -355,7 +355,7 @@ fn store_register(specific: u8) -> Option<Operation>
 fn alu(width: Width, specific: u8) -> Option<Operation>
     requires { specific < 32 }
     ensures found { IfSome result (IsOpcode (alu_class width) specific) }
-    ensures none { IfNone result ((o : Operation) → ¬ IsOpcode (alu_class width) specific o) }
+    ensures only { (operation : Operation) → IsOpcode (alu_class width) specific operation → result ≡ Some operation }
 {
     match (specific, width) {
         (16, _) => Some(Operation::Neg { width }),
@@ -380,7 +380,7 @@ fn alu(width: Width, specific: u8) -> Option<Operation>
 fn jump(width: Width, specific: u8) -> Option<Operation>
     requires { specific < 32 }
     ensures found { IfSome result (IsOpcode (jump_class width) specific) }
-    ensures none { IfNone result ((o : Operation) → ¬ IsOpcode (jump_class width) specific o) }
+    ensures only { (operation : Operation) → IsOpcode (jump_class width) specific operation → result ≡ Some operation }
 {
     match (specific, width) {
         (0, Width::Bits64) => Some(Operation::Jump {
