@@ -47,9 +47,9 @@ AreApart-from_rises : (rows : List Form) → Rises rows → AreApart rows
 AreApart-from_rises rows rise = record {
   ascending = pairs rows rise;
   apart = λ i j d before within bytes s t.
-    let less = pairs rows rise i j d before within in
-    let same = takes_same _ _ bytes s t in
-    omega arith;
+      let less = pairs rows rise i j d before within in
+      let same = takes_same _ _ bytes s t in
+      omega arith;
 }
 
 pub apart_from_test : (rows : List Form) → rises rows ≡ true → AreApart rows
@@ -77,9 +77,9 @@ searchable rows n a i j d h within = rank _ _ n (at_most rows a i j d (cases_lt 
 same_place : (rows : List Form) → AreApart rows → (i j : ℕ) (d : Form) → i < length rows → j < length rows → (get_or rows i d).opcode ≡ (get_or rows j d).opcode → i ≡ j
 same_place rows a i j d in_i in_j same =
     elim (cases_lt i j) [
-      inl less ↦ (let below = a.ascending i j d less in_j in absurd (omega arith))
+      | inl less ↦ (let below = a.ascending i j d less in_j in absurd (omega arith))
       | inr no_less ↦ elim (cases_lt j i) [
-        inl more ↦ (let above = a.ascending j i d more in_i in absurd (omega arith))
+        | inl more ↦ (let above = a.ascending j i d more in_i in absurd (omega arith))
         | inr no_more ↦ omega arith
       ]
     ]
@@ -105,6 +105,6 @@ pub no_row : (rows : List Form) (n place : ℕ) → IsPartitionPoint (λ row. na
 no_row rows n place parts form found same =
     let there : (get_or rows found.0 form).opcode ≡ n = ap (λ row. row.opcode) found.2 ∙ same in
     elim (cases_lt found.0 place) [
-      inl below ↦ (let less = parts.0 found.0 form (omega arith) below in grind (arith, nat_tests))
+      | inl below ↦ (let less = parts.0 found.0 form (omega arith) below in grind (arith, nat_tests))
       | inr above ↦ (let more = parts.1 found.0 form above found.1 in grind (arith, nat_tests))
     ]

@@ -114,11 +114,17 @@ narrow_front insn insns whole (o, fits) narrow range written =
     let narrow_form : (form_of o).opcode ≢ 0x18 = λ wide. narrow (fits.opcode ∙ wide) in
     record {
       pieces = slot_bytes insn ∷ written.pieces;
-      each = ((o, record {
-        size = length-slot_bytes insn ∙ sym (size-narrow (form_of o).opcode narrow_form);
-        first = subst (Fits (form_of o)) (sym is) fits;
-        second = λ wide. absurd (narrow_form wide);
-      }), written.each);
+      each = (
+        (
+          o,
+          record {
+            size = length-slot_bytes insn ∙ sym (size-narrow (form_of o).opcode narrow_form);
+            first = subst (Fits (form_of o)) (sym is) fits;
+            second = λ wide. absurd (narrow_form wide);
+          },
+        ),
+        written.each,
+      );
       joined = ap (λ bytes. slot_bytes insn ++ bytes) written.joined;
       made = ap (λ xs. xs ++ flat_map insns_of written.pieces) (insns_of-narrow (slot_bytes insn) (length-slot_bytes insn)) ∙ ap (λ i. i ∷ flat_map insns_of written.pieces) is ∙ ap (λ xs. insn ∷ xs) written.made;
     }
@@ -135,14 +141,20 @@ wide_front first second insns whole (o, fits) wide range half half_fits half_ran
     let long : length piece ≡ 16 = omega (arith, length-append (slot_bytes first) (slot_bytes second), length-slot_bytes first, length-slot_bytes second) in
     record {
       pieces = piece ∷ written.pieces;
-      each = ((o, record {
-        size = long ∙ sym (size-wide (form_of o).opcode wide_form);
-        first = subst (Fits (form_of o)) (sym is) fits;
-        second = λ _. subst (Fits half_form) (sym second_is) (fits_unmarked second half_fits);
-      }), written.each);
+      each = (
+        (
+          o,
+          record {
+            size = long ∙ sym (size-wide (form_of o).opcode wide_form);
+            first = subst (Fits (form_of o)) (sym is) fits;
+            second = λ _. subst (Fits half_form) (sym second_is) (fits_unmarked second half_fits);
+          },
+        ),
+        written.each,
+      );
       joined = append_assoc (slot_bytes first) (slot_bytes second) (concat written.pieces) ∙ ap (λ bytes. slot_bytes first ++ (slot_bytes second ++ bytes)) written.joined;
       made = ap (λ xs. xs ++ flat_map insns_of written.pieces) (insns_of-wide piece (omega arith)) ∙ ap (λ i. i ∷ half_of (slot (drop 8 piece)) ∷ flat_map insns_of written.pieces) is
-        ∙ ap (λ i. first ∷ i ∷ flat_map insns_of written.pieces) both ∙ ap (λ xs. first ∷ second ∷ xs) written.made;
+          ∙ ap (λ i. first ∷ i ∷ flat_map insns_of written.pieces) both ∙ ap (λ xs. first ∷ second ∷ xs) written.made;
     }
 
 -- the second slot goes with the first where that is a wide load

@@ -44,22 +44,24 @@ Begins-piece n bytes (operation, takes) =
       long = omega (arith, length-take n bytes);
       listed = (operation, subst (Fits (form_of operation)) same takes.first);
       half = λ wide.
-        let wide_form : (form_of operation).opcode ≡ 0x18 = sym takes.first.opcode ∙ ap (λ insn. insn.opcode) same ∙ wide in
-        let both : length (take n bytes) ≡ 16 = takes.size ∙ size-wide (form_of operation).opcode wide_form in
-        let long : 16 ≤ n = omega (arith, length-take n bytes) in
-        let second : drop 8 (take n bytes) ≡ take (n - 8) (drop 8 bytes) = ap (λ k. drop 8 (take k bytes)) (omega arith) ∙ drop-take 8 (n - 8) bytes in
-        (omega (arith, length-take n bytes, length-drop 8 bytes), subst (Fits half_form) (ap slot second ∙ slot-take (n - 8) (drop 8 bytes) (omega arith)) (takes.second wide_form));
+          let wide_form : (form_of operation).opcode ≡ 0x18 = sym takes.first.opcode ∙ ap (λ insn. insn.opcode) same ∙ wide in
+          let both : length (take n bytes) ≡ 16 = takes.size ∙ size-wide (form_of operation).opcode wide_form in
+          let long : 16 ≤ n = omega (arith, length-take n bytes) in
+          let second : drop 8 (take n bytes) ≡ take (n - 8) (drop 8 bytes) = ap (λ k. drop 8 (take k bytes)) (omega arith) ∙ drop-take 8 (n - 8) bytes in
+          (omega (arith, length-take n bytes, length-drop 8 bytes), subst (Fits half_form) (ap slot second ∙ slot-take (n - 8) (drop 8 bytes) (omega arith)) (takes.second wide_form));
     }
 
 wide_there : (bytes : List ℕ) → IsListed (slot bytes) → (slot bytes).opcode ≡ 0x18 → (8 ≤ length (drop 8 bytes)) × Fits half_form (slot (drop 8 bytes)) → IsPiece (take 16 bytes)
 wide_there bytes (operation, fits) wide half =
     let wide_form : (form_of operation).opcode ≡ 0x18 = sym fits.opcode ∙ wide in
-    let second : slot (drop 8 (take 16 bytes)) ≡ slot (drop 8 bytes) = ap slot (drop-take 8 8 bytes) ∙ slot-take 8 (drop 8 bytes) (omega arith) in
-    (operation, record {
-      size = (omega (arith, length-take 16 bytes, length-drop 8 bytes, half.0)) ∙ sym (size-wide (form_of operation).opcode wide_form);
-      first = subst (Fits (form_of operation)) (sym (slot-take 16 bytes (omega arith))) fits;
-      second = λ _. subst (Fits half_form) (sym second) half.1;
-    })
+    let second : slot (drop 8 (take 16 bytes)) ≡ slot (drop 8 bytes) = ap slot (drop-take 8 8 bytes) ∙ slot-take 8 (drop 8 bytes) (omega arith) in (
+      operation,
+      record {
+        size = (omega (arith, length-take 16 bytes, length-drop 8 bytes, half.0)) ∙ sym (size-wide (form_of operation).opcode wide_form);
+        first = subst (Fits (form_of operation)) (sym (slot-take 16 bytes (omega arith))) fits;
+        second = λ _. subst (Fits half_form) (sym second) half.1;
+      },
+    )
 
 -- The same of a first slot that was read, and the bytes behind it.
 pub wide_piece : (bytes rest : List ℕ) (first : Insn) → first ≡ slot bytes → rest ≡ drop 8 bytes → IsListed first → first.opcode ≡ 0x18 → (8 ≤ length rest) × Fits half_form (slot rest) → (16 ≤ length bytes) × IsPiece (take 16 bytes)
@@ -72,12 +74,17 @@ size-narrow opcode narrow = grind (arith, nat_tests)
 
 pub slot_piece : (bytes : List ℕ) (first : Insn) → first ≡ slot bytes → 8 ≤ length bytes → IsListed first → first.opcode ≢ 0x18 → (8 ≤ length bytes) × IsPiece (take 8 bytes)
 slot_piece bytes first is long (operation, fits) narrow =
-    let narrow_form : (form_of operation).opcode ≢ 0x18 = λ wide. narrow (fits.opcode ∙ wide) in
-    (long, (operation, record {
-      size = (omega (arith, length-take 8 bytes)) ∙ sym (size-narrow (form_of operation).opcode narrow_form);
-      first = subst (Fits (form_of operation)) (is ∙ sym (slot-take 8 bytes (omega arith))) fits;
-      second = λ wide. absurd (narrow_form wide);
-    }))
+    let narrow_form : (form_of operation).opcode ≢ 0x18 = λ wide. narrow (fits.opcode ∙ wide) in (
+      long,
+      (
+        operation,
+        record {
+          size = (omega (arith, length-take 8 bytes)) ∙ sym (size-narrow (form_of operation).opcode narrow_form);
+          first = subst (Fits (form_of operation)) (is ∙ sym (slot-take 8 bytes (omega arith))) fits;
+          second = λ wide. absurd (narrow_form wide);
+        },
+      ),
+    )
 
 pub unlisted : (bytes : List ℕ) (first : Insn) → first ≡ slot bytes → (IsListed first → ⊥) → (n : ℕ) → IsPiece (take n bytes) → ⊥
 unlisted bytes first is none n piece = none (subst IsListed (sym is) (Begins-piece n bytes piece).listed)
@@ -96,9 +103,10 @@ piece_first p x piece =
 
 same_piece : (p q x y : List ℕ) → IsPiece p → IsPiece q → p ++ x ≡ q ++ y → (p ≡ q) × (x ≡ y)
 same_piece p q x y is_p is_q same =
-    let size : length p ≡ length q = piece_first p x is_p ∙ ap (λ bytes. size_by (slot bytes).opcode) same ∙ sym (piece_first q y is_q) in
-    (sym (take_at p x (length p) refl) ∙ ap (take (length p)) same ∙ take_at q y (length p) (sym size),
-     sym (drop_at p x (length p) refl) ∙ ap (drop (length p)) same ∙ drop_at q y (length p) (sym size))
+    let size : length p ≡ length q = piece_first p x is_p ∙ ap (λ bytes. size_by (slot bytes).opcode) same ∙ sym (piece_first q y is_q) in (
+      sym (take_at p x (length p) refl) ∙ ap (take (length p)) same ∙ take_at q y (length p) (sym size),
+      sym (drop_at p x (length p) refl) ∙ ap (drop (length p)) same ∙ drop_at q y (length p) (sym size),
+    )
 
 -- bytes fall into pieces in one way, as far as pieces go
 pub same_split : (ps qs : List (List ℕ)) (x y : List ℕ) → AllByRecursion IsPiece ps → AllByRecursion IsPiece qs → ((n : ℕ) → IsPiece (take n x) → ⊥) → ((n : ℕ) → IsPiece (take n y) → ⊥) → concat ps ++ x ≡ concat qs ++ y → (ps ≡ qs) × (x ≡ y)

@@ -64,14 +64,14 @@ slot_made xs offset imm low high = cc
 pub bit_below : (k n i : ℕ) → n < 2 ^ k → IsBitSet n i → i < k
 bit_below k n i fits is_set =
     elim (cases_lt i k) [
-      inl below ↦ below
+      | inl below ↦ below
       | inr above ↦ (
-        let power : 2 ^ k ≤ 2 ^ i = pow_mono above in
-        let none : n / 2 ^ i ≡ 0 = div-eq_of_lt (omega arith) in
-        let bit : bit_at n i ≡ 0 = ap (λ q. q % 2) none in
-        let zero_bits : bit_and n (2 ^ i) ≡ 0 = and_pow n i ∙ ap (λ b. b * 2 ^ i) bit ∙ (omega arith) in
-        absurd (is_set zero_bits)
-      )
+          let power : 2 ^ k ≤ 2 ^ i = pow_mono above in
+          let none : n / 2 ^ i ≡ 0 = div-eq_of_lt (omega arith) in
+          let bit : bit_at n i ≡ 0 = ap (λ q. q % 2) none in
+          let zero_bits : bit_and n (2 ^ i) ≡ 0 = and_pow n i ∙ ap (λ b. b * 2 ^ i) bit ∙ (omega arith) in
+          absurd (is_set zero_bits)
+          )
     ]
 
 -- the bits of a signed number

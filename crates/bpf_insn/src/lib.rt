@@ -6,11 +6,13 @@ mod encoding;
 mod insn;
 mod operation;
 mod table;
+#[cfg(test)]
+mod tests;
 
 pub use decoding::{DecodeEnd, decode};
 pub use encoding::encode;
 pub use insn::{Insn, InsnList};
 pub use operation::{
-    Arithmetic, Atomic, Order, Comparison, Distance, Narrow, Operand, Operation, Size, Width,
+    Arithmetic, Atomic, Comparison, Distance, Narrow, Operand, Operation, Order, Size, Width,
 };
 pub use table::{Form, ImmRule, OffsetRule, Table, instructions, rows_apart};

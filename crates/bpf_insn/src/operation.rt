@@ -365,9 +365,7 @@ fn alu(width: Width, specific: u8) -> Option<Operation>
         (27, Width::Bits32) => Some(Operation::End {
             order: Order::ToBig,
         }),
-        (26, Width::Bits64) => Some(Operation::End {
-            order: Order::Swap,
-        }),
+        (26, Width::Bits64) => Some(Operation::End { order: Order::Swap }),
         _ => Some(Operation::Alu {
             width,
             op: Arithmetic::from_code(specific / 2)?,
