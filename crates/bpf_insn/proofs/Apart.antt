@@ -1,8 +1,8 @@
 -- Rows whose opcodes ascend, and what a search among them finds.
 use Rattle.std.proofs.Common.{◌≡◌, ◌<◌, ◌≤◌, ◌+◌, ◌⊎◌, ℕ, zero, suc, Bool, true, false, List, [], ◌∷◌, ◌↔◌, length, get_or, refl, sym, ◌∙◌, ap, subst, inl, inr, arith, add-one, nat_cmp}
-use Rattle.std.specs.Prelude.{◌&&◌, All, AllPairs, Contains, nat_lt, IsTrue}
+use Rattle.std.specs.Prelude.{◌&&◌, AllPairs, Contains, nat_lt, IsTrue}
 use Rattle.std.specs.declared.cmp.Ordering.TheVariants.{Less, Equal, Greater}
-use Rattle.std.specs.List.{AllWithin, AllAdjacentBelow, IsAllAdjacentAnswer, HoldsAt}
+use Rattle.std.specs.List.{IsAllAdjacentAnswer, HoldsAt}
 use Rattle.std.specs.List.Sorted.{IsNonDecreasingBy, IsPartitionPoint}
 use Rattle.std.specs.Ordering.{ordering_index}
 use Rattle.std.proofs.lemmas.Bool.{cases_lt}

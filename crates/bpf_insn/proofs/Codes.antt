@@ -1,14 +1,13 @@
 -- Codes: their registers, and that what is written decodes.
-use Rattle.std.proofs.Common.{◌≡◌, ◌≢◌, ◌<◌, ◌≤◌, ◌^◌, ◌+◌, ℕ, zero, suc, List, [], ◌∷◌, ◌++◌, length, get_or, take, drop, refl, sym, ap, ◌∙◌, subst, arith, Bool, true, false, Result, Ok, Err, lit<, length-append}
-use Rattle.std.specs.Prelude.{◌==◌, if◌then◌else◌, All, FitsSigned, IfOk}
+use Rattle.std.proofs.Common.{◌≡◌, ◌≢◌, ◌<◌, ◌≤◌, ◌^◌, ℕ, List, [], ◌∷◌, ◌++◌, length, get_or, take, drop, refl, sym, ap, ◌∙◌, subst, arith, Bool, true, false, Result, Ok, Err, lit<, length-append}
+use Rattle.std.specs.Prelude.{◌==◌, All, FitsSigned, IfOk}
 use Rattle.std.specs.Int.{w16, w32}
 use Rattle.std.specs.List.{concat, flat_map, AllByRecursion}
-use Rattle.std.proofs.lemmas.List.{append_assoc, append-nil, drop_at, take_all}
+use Rattle.std.proofs.lemmas.List.{append_assoc, append-nil, drop_at, take_all, take-append-drop, length-take, length-drop, get_or_default}
 use Rattle.std.proofs.lemmas.List.Concat.{flat_map-append}
-use Rattle.std.proofs.lemmas.List.Elements.{All-from_recursion}
+use Rattle.std.proofs.lemmas.List.Elements.{All-from_recursion, recursion_from_All}
 use Rattle.std.proofs.lemmas.Bool.Decides.{nat_tests}
 use Rattle.bpf_insn.specs.declared.decoding.DecodeEnd.{DecodeEnd}
-use Rattle.bpf_insn.specs.declared.decoding.DecodeEnd.TheVariants.{BadInsn, OutOfMemory}
 use Rattle.bpf_insn.specs.declared.insn.Insn.{Insn}
 use Rattle.bpf_insn.specs.declared.operation.Distance.TheVariants as distance
 use Rattle.bpf_insn.specs.declared.operation.Operand.TheVariants.{Imm, Register}
@@ -16,8 +15,8 @@ use Rattle.bpf_insn.specs.declared.operation.Operation.{Operation}
 use Rattle.bpf_insn.specs.declared.operation.Operation.TheVariants.{Alu, Neg, End, Jump, Branch, Call, Exit, Load, LoadSigned, Store, LoadWide}
 use Rattle.bpf_insn.specs.declared.operation.Operation.TheVariants as operation
 use Rattle.bpf_insn.specs.Form.{form_of, half_form, Fits}
-use Rattle.bpf_insn.specs.Code.{slot, half_of, slot_bytes, IsListed, IsPiece, Takes, insns_of, Split, Decodes, IsDecoded, Continues, IsCode, HasRegisters}
-use Rattle.bpf_insn.proofs.Slots.{bit_below, slot-slot_bytes}
+use Rattle.bpf_insn.specs.Code.{slot, half_of, slot_bytes, IsListed, IsPiece, Takes, insns_of, Decodes, IsDecoded, Continues, IsCode, HasRegisters}
+use Rattle.bpf_insn.proofs.Slots.{AreBytes, bit_below, slot-take, slot-slot_bytes, slot_bytes-slot}
 use Rattle.bpf_insn.proofs.Splits.{insns_of-wide, insns_of-narrow}
 use Rattle.bpf_insn.proofs.Pieces.{size-narrow, size-wide, Begins-piece}
 
@@ -223,3 +222,41 @@ code_decoded bytes (Err e) decoded = tt
 pub registers_decoded : (r : Result (List Insn) DecodeEnd) → IfOk r IsCode → IfOk r (All HasRegisters)
 registers_decoded (Ok insns) code = code_registers insns code
 registers_decoded (Err e) code = tt
+
+bytes_parts : (xs ys : List ℕ) → AreBytes (xs ++ ys) → AreBytes xs × AreBytes ys
+bytes_parts [] ys are = (tt, are)
+bytes_parts (x ∷ xs) ys are = let rest = bytes_parts xs ys are.1 in ((are.0, rest.0), rest.1)
+
+-- the mark of a half is not written
+slot_bytes-half : (insn : Insn) → slot_bytes (half_of insn) ≡ slot_bytes insn
+unfolding slot_bytes
+slot_bytes-half insn = refl
+
+-- the slots of a piece are its bytes
+piece_again : (piece : List ℕ) (o : Operation) → Takes (form_of o) piece → AreBytes piece → (wide : Bool) → ((form_of o).opcode == 0x18) ≡ wide → flat_map slot_bytes (insns_of piece) ≡ piece
+piece_again piece o takes are true e =
+    let size : length piece ≡ 16 = takes.size ∙ size-wide (form_of o).opcode (is_wide (form_of o).opcode e) in
+    let parts = bytes_parts (take 8 piece) (drop 8 piece) (subst AreBytes (sym (take-append-drop 8 piece)) are) in
+    let first : slot_bytes (slot piece) ≡ take 8 piece = ap slot_bytes (sym (slot-take 8 piece (omega arith))) ∙ slot_bytes-slot (take 8 piece) (omega (arith, length-take 8 piece)) parts.0 in
+    let second : slot_bytes (half_of (slot (drop 8 piece))) ≡ drop 8 piece = slot_bytes-half (slot (drop 8 piece)) ∙ slot_bytes-slot (drop 8 piece) (omega (arith, length-drop 8 piece)) parts.1 in
+    ap (flat_map slot_bytes) (insns_of-wide piece (omega arith))
+    ∙ ap (λ xs. slot_bytes (slot piece) ++ xs) (append-nil (slot_bytes (half_of (slot (drop 8 piece)))) ∙ second)
+    ∙ ap (λ xs. xs ++ drop 8 piece) first ∙ take-append-drop 8 piece
+piece_again piece o takes are false e =
+    let size : length piece ≡ 8 = takes.size ∙ size-narrow (form_of o).opcode (is_narrow (form_of o).opcode e) in
+    ap (flat_map slot_bytes) (insns_of-narrow piece size) ∙ append-nil (slot_bytes (slot piece)) ∙ slot_bytes-slot piece size are
+
+pieces_again : (pieces : List (List ℕ)) → AllByRecursion IsPiece pieces → AreBytes (concat pieces) → flat_map slot_bytes (flat_map insns_of pieces) ≡ concat pieces
+pieces_again [] each are = refl
+pieces_again (piece ∷ pieces) each are =
+    let parts = bytes_parts piece (concat pieces) are in
+    flat_map-append slot_bytes (insns_of piece) (flat_map insns_of pieces)
+    ∙ ap (λ xs. xs ++ flat_map slot_bytes (flat_map insns_of pieces)) (piece_again piece each.0.0 each.0.1 parts.0 ((form_of each.0.0).opcode == 0x18) refl)
+    ∙ ap (λ xs. piece ++ xs) (pieces_again pieces each.1 parts.1)
+
+pub bytes_decoded : (bytes : List ℕ) (r : Result (List Insn) DecodeEnd) → ((i : ℕ) → get_or bytes i 0 < 2 ^ 8) → IsDecoded bytes r → IfOk r (λ insns. flat_map slot_bytes insns ≡ bytes)
+bytes_decoded bytes (Ok insns) fits (split, done, is) =
+    let joined : bytes ≡ concat split.pieces = split.joined ∙ ap (λ xs. concat split.pieces ++ xs) done ∙ append-nil (concat split.pieces) in
+    let are : AreBytes bytes = recursion_from_All (λ b. b < 2 ^ 8) bytes (λ k d within. subst (λ b. b < 2 ^ 8) (get_or_default bytes k 0 d within) (fits k)) in
+    ap (flat_map slot_bytes) is ∙ pieces_again split.pieces split.each (subst AreBytes joined are) ∙ sym joined
+bytes_decoded bytes (Err e) fits decoded = tt

@@ -1,14 +1,12 @@
 -- Pieces: what a piece shows at the front of bytes, and that bytes fall into pieces in one way.
-use Rattle.std.proofs.Common.{◌≡◌, ◌≢◌, ◌<◌, ◌≤◌, ◌+◌, ◌-◌, ◌⊎◌, ℕ, Bool, List, [], ◌∷◌, ◌++◌, length, get_or, take, drop, min, refl, sym, ap, ◌∙◌, subst, inl, inr, arith, true, false, cond, lit≤}
+use Rattle.std.proofs.Common.{◌≡◌, ◌≢◌, ◌≤◌, ◌-◌, ◌⊎◌, ℕ, Bool, List, [], ◌∷◌, ◌++◌, length, take, drop, refl, sym, ap, ◌∙◌, subst, inl, inr, arith, true, false, cond}
 use Rattle.std.specs.Prelude.{if◌then◌else◌, ◌==◌}
 use Rattle.std.specs.List.{concat, AllByRecursion}
 use Rattle.std.proofs.lemmas.Bool.Decides.{nat_tests}
 use Rattle.std.proofs.lemmas.List.{length-take, length-drop, drop-take, append_assoc, take_at, drop_at}
 use Rattle.bpf_insn.specs.declared.insn.Insn.{Insn}
-use Rattle.bpf_insn.specs.declared.operation.Operation.{Operation}
-use Rattle.bpf_insn.specs.Operation.{opcode_of}
 use Rattle.bpf_insn.specs.Form.{form_of, half_form, Fits}
-use Rattle.bpf_insn.specs.Code.{slot, IsListed, Takes, IsPiece}
+use Rattle.bpf_insn.specs.Code.{slot, IsListed, IsPiece}
 use Rattle.bpf_insn.proofs.Slots.{slot-take}
 
 -- how many bytes a piece has that begins with this byte

@@ -1,6 +1,6 @@
 -- The rows of the table: the forms of all operations, by opcode.
-use Rattle.std.proofs.Common.{◌≡◌, ◌<◌, ◌+◌, ℕ, zero, suc, Bool, true, false, List, [], ◌∷◌, ◌++◌, Some, None, length, get_or, refl, sym, ap, ◌∙◌, subst, map, arith, cond, Option}
-use Rattle.std.specs.Prelude.{◌==◌, All, AllPairs, Contains, IfSome}
+use Rattle.std.proofs.Common.{◌≡◌, ℕ, zero, suc, Bool, true, false, List, [], ◌∷◌, Some, None, refl, sym, ap, ◌∙◌, subst, map, arith, cond, Option}
+use Rattle.std.specs.Prelude.{◌==◌, All, Contains, IfSome}
 use Rattle.std.specs.List.{find}
 use Rattle.bpf_insn.specs.declared.operation.Arithmetic.{Arithmetic}
 use Rattle.bpf_insn.specs.declared.operation.Arithmetic.TheVariants.{Add, Sub, Mul, Div, Or, And, Lsh, Rsh, Mod, Xor, Mov, Arsh}

@@ -1,11 +1,13 @@
 -- One slot: the bytes that it depends on, and what is read of what was written.
-use Rattle.std.proofs.Common.{◌≡◌, ◌<◌, ◌≤◌, ◌+◌, ◌*◌, ◌/◌, ◌%◌, ◌^◌, ◌-◌, ℕ, zero, suc, List, [], ◌∷◌, ◌++◌, length, get_or, take, drop, refl, sym, ap, ◌∙◌, arith, false, true, lit<, lit≤, inl, inr}
-use Rattle.std.specs.Prelude.{ℤ, pos, negsuc, slice_index, IsBitSet, bit_and, FitsSigned}
+use Rattle.std.proofs.Common.{◌≡◌, ◌<◌, ◌≤◌, ◌+◌, ◌*◌, ◌/◌, ◌%◌, ◌^◌, ◌-◌, ℕ, zero, suc, List, [], ◌∷◌, ◌++◌, length, get_or, take, drop, refl, sym, ap, ◌∙◌, arith, false, lit<, lit≤, inl, inr}
+use Rattle.std.specs.Prelude.{ℤ, pos, negsuc, IsBitSet, bit_and, FitsSigned}
 use mir.Val.{bits, hbits}
+use Rattle.std.specs.List.{AllByRecursion}
+use Rattle.std.proofs.lemmas.List.Elements.{All-from_recursion}
 use Rattle.std.specs.Int.{Width, w16, w32, cast_signed, cast_unsigned, bit_at, to_le_bytes}
 use Rattle.std.proofs.lemmas.Bool.{cases_lt}
 use Rattle.std.proofs.lemmas.List.{get_or-take, get_or-drop, take_rest}
-use Rattle.std.proofs.lemmas.Int.{to_z-of_z}
+use Rattle.std.proofs.lemmas.Int.{to_z-of_z, of_z-to_z}
 use Rattle.std.proofs.lemmas.Nat.Bits.{and_pow}
 use Rattle.std.proofs.Math.Pow.{pow_mono}
 use Rattle.std.proofs.Math.Nat.{div-eq_of_lt}
@@ -107,3 +109,49 @@ slot_written insn offset imm offset_fits imm_fits offset_is imm_is =
     let low = to_z-of_z w16 insn.offset offset_fits in
     let high = to_z-of_z w32 insn.imm imm_fits in
     cc
+
+-- what stands in a list of eight
+eight : (xs : List ℕ) → length xs ≡ 8 → xs ≡ get_or xs 0 0 ∷ get_or xs 1 0 ∷ get_or xs 2 0 ∷ get_or xs 3 0 ∷ get_or xs 4 0 ∷ get_or xs 5 0 ∷ get_or xs 6 0 ∷ get_or xs 7 0 ∷ []
+eight [] e = absurd (omega arith)
+eight (a ∷ []) e = absurd (omega arith)
+eight (a ∷ b ∷ []) e = absurd (omega arith)
+eight (a ∷ b ∷ c ∷ []) e = absurd (omega arith)
+eight (a ∷ b ∷ c ∷ d ∷ []) e = absurd (omega arith)
+eight (a ∷ b ∷ c ∷ d ∷ i ∷ []) e = absurd (omega arith)
+eight (a ∷ b ∷ c ∷ d ∷ i ∷ j ∷ []) e = absurd (omega arith)
+eight (a ∷ b ∷ c ∷ d ∷ i ∷ j ∷ k ∷ []) e = absurd (omega arith)
+eight (a ∷ b ∷ c ∷ d ∷ i ∷ j ∷ k ∷ l ∷ []) e = refl
+eight (a ∷ b ∷ c ∷ d ∷ i ∷ j ∷ k ∷ l ∷ m ∷ xs) e = absurd (omega arith)
+
+abbrev pub AreBytes : List ℕ → Type 0
+AreBytes xs = AllByRecursion (λ b. b < 2 ^ 8) xs
+
+-- each byte of a number is where it was
+offset_again : (a b : ℕ) → a < 2 ^ 8 → b < 2 ^ 8 → little_bytes 2 (cast_unsigned w16 (cast_signed w16 (little_from 0 2 (a ∷ b ∷ [])))) ≡ a ∷ b ∷ []
+offset_again a b in_a in_b =
+    let n : cast_unsigned w16 (cast_signed w16 (a + 256 * (b + 0))) ≡ a + 256 * b = of_z-to_z w16 (a + 256 * (b + 0)) (omega arith) ∙ (omega arith) in
+    let low : (a + 256 * b) % 256 ≡ a = omega arith in
+    let high : (a + 256 * b) / 256 % 256 ≡ b = omega arith in
+    ap (little_bytes 2) n ∙ ap (λ x. x ∷ (a + 256 * b) / 256 % 256 ∷ []) low ∙ ap (λ x. a ∷ x ∷ []) high
+
+imm_again : (a b c d : ℕ) → a < 2 ^ 8 → b < 2 ^ 8 → c < 2 ^ 8 → d < 2 ^ 8 → little_bytes 4 (cast_unsigned w32 (cast_signed w32 (little_from 0 4 (a ∷ b ∷ c ∷ d ∷ [])))) ≡ a ∷ b ∷ c ∷ d ∷ []
+imm_again a b c d in_a in_b in_c in_d =
+    let n : cast_unsigned w32 (cast_signed w32 (a + 256 * (b + 256 * (c + 256 * (d + 0))))) ≡ a + 256 * (b + 256 * (c + 256 * d)) = of_z-to_z w32 (a + 256 * (b + 256 * (c + 256 * (d + 0)))) (omega arith) ∙ (omega arith) in
+    let e : (a + 256 * (b + 256 * (c + 256 * d))) % 256 ≡ a = omega arith in
+    let f : (a + 256 * (b + 256 * (c + 256 * d))) / 256 % 256 ≡ b = omega arith in
+    let g : (a + 256 * (b + 256 * (c + 256 * d))) / 65536 % 256 ≡ c = omega arith in
+    let h : (a + 256 * (b + 256 * (c + 256 * d))) / 16777216 % 256 ≡ d = omega arith in
+    ap (little_bytes 4) n ∙ cc
+
+joined : {r s : ℕ} {xs ys zs ws : List ℕ} (opcode : ℕ) → r ≡ s → xs ≡ ys → zs ≡ ws → opcode ∷ r ∷ (xs ++ zs) ≡ opcode ∷ s ∷ (ys ++ ws)
+joined opcode e f g = cc
+
+-- what is read is written
+pub slot_bytes-slot : (xs : List ℕ) → length xs ≡ 8 → AreBytes xs → slot_bytes (slot xs) ≡ xs
+unfolding slot slot_bytes
+slot_bytes-slot xs size are =
+    let byte = All-from_recursion (λ b. b < 2 ^ 8) xs are in
+    let registers : get_or xs 1 0 / 16 * 16 + get_or xs 1 0 % 16 ≡ get_or xs 1 0 = omega arith in
+    let offset = offset_again (get_or xs 2 0) (get_or xs 3 0) (byte 2 0 (omega arith)) (byte 3 0 (omega arith)) in
+    let imm = imm_again (get_or xs 4 0) (get_or xs 5 0) (get_or xs 6 0) (get_or xs 7 0) (byte 4 0 (omega arith)) (byte 5 0 (omega arith)) (byte 6 0 (omega arith)) (byte 7 0 (omega arith)) in
+    joined (get_or xs 0 0) registers offset imm ∙ sym (eight xs size)

@@ -7,8 +7,14 @@ use Rattle.bpf_insn.specs.declared.decoding.DecodeEnd.{DecodeEnd}
 use Rattle.bpf_insn.specs.declared.decoding.DecodeEnd.TheVariants.{BadInsn, OutOfMemory}
 use Rattle.bpf_insn.specs.declared.insn.Insn.{Insn}
 use Rattle.bpf_insn.specs.declared.operation.Operation.{Operation}
+use Rattle.bpf_insn.specs.declared.operation.Operation.TheVariants.{LoadWide}
 use Rattle.bpf_insn.specs.declared.table.Form.{Form}
+use Rattle.bpf_insn.specs.Operation.{opcode_of}
 use Rattle.bpf_insn.specs.Form.{form_of, half_form, Fits}
+
+-- RFC 9669 §5.4: the opcode of the one instruction that has two slots
+abbrev pub wide_load : ℕ
+wide_load = opcode_of LoadWide
 
 -- RFC 9669 §3.1: the fields of the slot at the front of the bytes, little endian
 unfoldable pub slot : List ℕ → Insn
@@ -30,9 +36,9 @@ IsListed insn = (operation : Operation) × Fits (form_of operation) insn
 
 -- what a form takes: a slot of 8 bytes, and for a wide load the next slot too
 pub record Takes (form : Form) (bytes : List ℕ) : Type 0 where
-  pub size : length bytes ≡ (if form.opcode == 0x18 then 16 else 8)
+  pub size : length bytes ≡ (if form.opcode == wide_load then 16 else 8)
   pub first : Fits form (slot bytes)
-  pub second : form.opcode ≡ 0x18 → Fits half_form (slot (drop 8 bytes))
+  pub second : form.opcode ≡ wide_load → Fits half_form (slot (drop 8 bytes))
 
 -- a piece: bytes that a form of the table takes
 abbrev pub IsPiece : List ℕ → Type 0
@@ -82,7 +88,7 @@ pub record AreApart (rows : List Form) : Type 0 where
 abbrev pub Continues : Bool → List Insn → Type 0
 Continues wide [] = wide ≡ false
 Continues true (insn ∷ insns) = (insn.half ≡ true) × Fits half_form insn × Continues false insns
-Continues false (insn ∷ insns) = (insn.half ≡ false) × IsListed insn × Continues (insn.opcode == 0x18) insns
+Continues false (insn ∷ insns) = (insn.half ≡ false) × IsListed insn × Continues (insn.opcode == wide_load) insns
 
 -- the registers are r0 to r10
 abbrev pub HasRegisters : Insn → Type 0

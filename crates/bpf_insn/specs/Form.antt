@@ -1,5 +1,5 @@
 -- What the fields of a slot may be, for each operation.
-use Rattle.std.specs.Prelude.{◌≡◌, ◌⊎◌, ℕ, ℤ, pos, Bool, IsTrue, IsBitSet, ⊤, ◌≤◌}
+use Rattle.std.specs.Prelude.{◌≡◌, ◌⊎◌, ℕ, ℤ, pos, IsBitSet, ⊤, ◌≤◌}
 use Rattle.bpf_insn.specs.declared.insn.Insn.{Insn}
 use Rattle.bpf_insn.specs.declared.operation.Arithmetic.{Arithmetic}
 use Rattle.bpf_insn.specs.declared.operation.Arithmetic.TheVariants as arithmetic

@@ -8,9 +8,7 @@ use Rattle.bpf_insn.specs.declared.operation.Arithmetic.{Arithmetic}
 use Rattle.bpf_insn.specs.declared.operation.Arithmetic.TheVariants as arithmetic
 use Rattle.bpf_insn.specs.declared.operation.Comparison.{Comparison}
 use Rattle.bpf_insn.specs.declared.operation.Comparison.TheVariants as comparison
-use Rattle.bpf_insn.specs.declared.operation.Order.{Order}
 use Rattle.bpf_insn.specs.declared.operation.Order.TheVariants as order
-use Rattle.bpf_insn.specs.declared.operation.Distance.{Distance}
 use Rattle.bpf_insn.specs.declared.operation.Distance.TheVariants as distance
 use Rattle.bpf_insn.specs.declared.operation.Size.{Size}
 use Rattle.bpf_insn.specs.declared.operation.Size.TheVariants as size

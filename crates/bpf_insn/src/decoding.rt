@@ -1,7 +1,8 @@
 ghost use Rattle.std.specs.Prelude.{◌≡◌, ◌≤◌, ◌<◌, ◌↔◌, ◌⊎◌, ◌++◌, ℕ, List, length, take, Result, Ok, Err, IsTrue, IfOk, IfSome, IfNone, OnOk, All};
+ghost use Rattle.std.specs.List.{flat_map};
 ghost use Rattle.bpf_insn.specs.declared.insn.Insn.{Insn};
 ghost use Rattle.bpf_insn.specs.Form.{half_form, Fits};
-ghost use Rattle.bpf_insn.specs.Code.{slot, IsListed, IsPiece, insns_of, Decodes, IsDecoded, Gives, IsCode, HasRegisters};
+ghost use Rattle.bpf_insn.specs.Code.{slot, slot_bytes, IsListed, IsPiece, insns_of, Decodes, IsDecoded, Gives, IsCode, HasRegisters};
 
 use crate::insn::{Insn, InsnList};
 use crate::table::{HALF, form_at};
@@ -33,6 +34,7 @@ const WIDE_LOAD: u8 = 0x18;
 /// The instructions of the bytes, slot by slot.
 pub fn decode(alloc: Global, bytes: &[u8]) -> Result<InsnList, DecodeEnd>
     ensures exact { IsDecoded bytes.now result }
+    ensures bytes { IfOk result (λ insns. flat_map slot_bytes insns ≡ bytes.now) }
     ensures code { IfOk result IsCode }
     ensures registers { IfOk result (All HasRegisters) }
     ensures only { (answer : Result (List Insn) ℕ) → Decodes bytes.now answer → Gives result answer }

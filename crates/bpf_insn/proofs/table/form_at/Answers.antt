@@ -1,5 +1,3 @@
-use Rattle.std.proofs.Common.{◌≡◌, sym, ap, ◌∙◌}
-use Rattle.std.specs.Prelude.{MatchOption}
 use Rattle.bpf_insn.proofs.Rows.{every_form, opcode_listed, rows_apart}
 use Rattle.bpf_insn.proofs.table.form_at.Goals as goal
 
