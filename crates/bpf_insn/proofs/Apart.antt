@@ -9,8 +9,8 @@ use Rattle.std.proofs.lemmas.Bool.{cases_lt}
 use Rattle.std.proofs.lemmas.Bool.Decides.{nat_tests}
 use Rattle.std.proofs.lemmas.List.{get_or_default}
 use Rattle.bpf_insn.specs.declared.table.Form.{Form}
-use Rattle.bpf_insn.specs.Form.{half_form}
-use Rattle.bpf_insn.specs.Code.{Takes, AreApart}
+use Rattle.bpf_insn.specs.Form.{half_form, Takes}
+use Rattle.bpf_insn.specs.Table.{AreApart}
 
 -- the opcode of a row is below that of the next
 abbrev pub Rises : List Form → Type 0

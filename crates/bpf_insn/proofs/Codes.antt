@@ -14,8 +14,9 @@ use Rattle.bpf_insn.specs.declared.operation.Operand.TheVariants.{Imm, Register}
 use Rattle.bpf_insn.specs.declared.operation.Operation.{Operation}
 use Rattle.bpf_insn.specs.declared.operation.Operation.TheVariants.{Alu, Neg, End, Jump, Branch, Call, Exit, Load, LoadSigned, Store, LoadWide}
 use Rattle.bpf_insn.specs.declared.operation.Operation.TheVariants as operation
-use Rattle.bpf_insn.specs.Form.{form_of, half_form, Fits}
-use Rattle.bpf_insn.specs.Code.{slot, half_of, slot_bytes, IsListed, IsPiece, Takes, insns_of, Decodes, IsDecoded, Continues, IsCode, HasRegisters}
+use Rattle.bpf_insn.specs.Form.{form_of, half_form, Fits, IsListed, Takes}
+use Rattle.bpf_insn.specs.Code.{IsPiece, insns_of, Decodes, IsDecoded, Continues, IsCode}
+use Rattle.bpf_insn.specs.Insn.{slot, half_of, slot_bytes, HasRegisters}
 use Rattle.bpf_insn.proofs.Slots.{AreBytes, bit_below, slot-take, slot-slot_bytes, slot_bytes-slot}
 use Rattle.bpf_insn.proofs.Splits.{insns_of-wide, insns_of-narrow}
 use Rattle.bpf_insn.proofs.Pieces.{size-narrow, size-wide, Begins-piece}

@@ -5,8 +5,9 @@ use Rattle.std.specs.List.{concat, AllByRecursion}
 use Rattle.std.proofs.lemmas.Bool.Decides.{nat_tests}
 use Rattle.std.proofs.lemmas.List.{length-take, length-drop, drop-take, append_assoc, take_at, drop_at}
 use Rattle.bpf_insn.specs.declared.insn.Insn.{Insn}
-use Rattle.bpf_insn.specs.Form.{form_of, half_form, Fits}
-use Rattle.bpf_insn.specs.Code.{slot, IsListed, IsPiece}
+use Rattle.bpf_insn.specs.Form.{form_of, half_form, Fits, IsListed}
+use Rattle.bpf_insn.specs.Code.{IsPiece}
+use Rattle.bpf_insn.specs.Insn.{slot}
 use Rattle.bpf_insn.proofs.Slots.{slot-take}
 
 -- how many bytes a piece has that begins with this byte

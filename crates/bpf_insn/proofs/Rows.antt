@@ -21,7 +21,7 @@ use Rattle.bpf_insn.specs.declared.table.Form.{Form}
 use Rattle.bpf_insn.specs.declared.table.TheConstants.{ROWS}
 use Rattle.bpf_insn.specs.Operation.{opcode_of}
 use Rattle.bpf_insn.specs.Form.{form_of}
-use Rattle.bpf_insn.specs.Code.{AreApart}
+use Rattle.bpf_insn.specs.Table.{AreApart}
 use Rattle.bpf_insn.proofs.Apart.{apart_from_test}
 
 -- the row that has the opcode of an operation is its form

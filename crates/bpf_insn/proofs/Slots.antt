@@ -14,7 +14,7 @@ use Rattle.std.proofs.Math.Nat.{div-eq_of_lt}
 use Rattle.byteorder.specs.Endian.{little_from, little_number, little_bytes}
 use Rattle.byteorder.specs.Numbers.{little_from-take, little_number-reads_back}
 use Rattle.bpf_insn.specs.declared.insn.Insn.{Insn}
-use Rattle.bpf_insn.specs.Code.{slot, slot_bytes}
+use Rattle.bpf_insn.specs.Insn.{slot, slot_bytes}
 
 -- the number in n bytes from place i on
 little_from-drop : (k i n : ℕ) (xs : List ℕ) → little_from i n (drop k xs) ≡ little_from (k + i) n xs

@@ -8,7 +8,8 @@ use Rattle.std.proofs.lemmas.List.Concat.{flat_map-append}
 use Rattle.bpf_insn.specs.declared.decoding.DecodeEnd.{DecodeEnd}
 use Rattle.bpf_insn.specs.declared.decoding.DecodeEnd.TheVariants.{BadInsn, OutOfMemory}
 use Rattle.bpf_insn.specs.declared.insn.Insn.{Insn}
-use Rattle.bpf_insn.specs.Code.{slot, half_of, IsPiece, insns_of, Split, Decodes, IsDecoded, Gives}
+use Rattle.bpf_insn.specs.Code.{IsPiece, insns_of, Split, Decodes, IsDecoded, Gives}
+use Rattle.bpf_insn.specs.Insn.{slot, half_of}
 use Rattle.bpf_insn.proofs.Pieces.{Begins-piece, same_split}
 
 -- the pieces so far, their instructions, and the bytes that are left

@@ -1,5 +1,5 @@
 -- What the fields of a slot may be, for each operation.
-use Rattle.std.specs.Prelude.{◌≡◌, ◌⊎◌, ℕ, ℤ, pos, IsBitSet, ⊤, ◌≤◌}
+use Rattle.std.specs.Prelude.{◌≡◌, ◌⊎◌, ◌≤◌, ◌==◌, ℕ, ℤ, pos, List, length, drop, if◌then◌else◌, IsBitSet, ⊤}
 use Rattle.bpf_insn.specs.declared.insn.Insn.{Insn}
 use Rattle.bpf_insn.specs.declared.operation.Arithmetic.{Arithmetic}
 use Rattle.bpf_insn.specs.declared.operation.Arithmetic.TheVariants as arithmetic
@@ -17,6 +17,7 @@ use Rattle.bpf_insn.specs.declared.table.ImmRule.{ImmRule}
 use Rattle.bpf_insn.specs.declared.table.ImmRule.TheVariants as imms
 use Rattle.bpf_insn.specs.declared.table.OffsetRule.{OffsetRule}
 use Rattle.bpf_insn.specs.declared.table.OffsetRule.TheVariants.{Zero, Any, ZeroOrOne, Moves16, Moves32}
+use Rattle.bpf_insn.specs.Insn.{slot}
 use Rattle.bpf_insn.specs.Operation.{opcode_of, atomic_code, IsSourceWritten}
 
 -- Masks of registers: a field that is unused is 0, r0 to r9 may be written, r0 to r10 read.
@@ -101,3 +102,17 @@ pub record Fits (form : Form) (insn : Insn) : Type 0 where
   pub source : IsBitSet form.sources insn.source
   pub offset : AllowsOffset form.offsets insn.offset
   pub imm : AllowsImm form.imms insn
+
+-- some row of the table fits
+abbrev pub IsListed : Insn → Type 0
+IsListed insn = (operation : Operation) × Fits (form_of operation) insn
+
+-- RFC 9669 §5.4: the opcode of the one instruction that has two slots
+abbrev pub wide_load : ℕ
+wide_load = opcode_of LoadWide
+
+-- what a form takes: a slot of 8 bytes, and for a wide load the next slot too
+pub record Takes (form : Form) (bytes : List ℕ) : Type 0 where
+  pub size : length bytes ≡ (if form.opcode == wide_load then 16 else 8)
+  pub first : Fits form (slot bytes)
+  pub second : form.opcode ≡ wide_load → Fits half_form (slot (drop 8 bytes))

@@ -1,8 +1,9 @@
 ghost use Rattle.std.specs.Prelude.{◌≡◌, ◌≤◌, ◌<◌, ◌↔◌, ◌⊎◌, ◌++◌, ℕ, List, length, take, Result, Ok, Err, IsTrue, IfOk, IfSome, IfNone, OnOk, All};
 ghost use Rattle.std.specs.List.{flat_map};
 ghost use Rattle.bpf_insn.specs.declared.insn.Insn.{Insn};
-ghost use Rattle.bpf_insn.specs.Form.{half_form, Fits};
-ghost use Rattle.bpf_insn.specs.Code.{slot, slot_bytes, IsListed, IsPiece, insns_of, Decodes, IsDecoded, Gives, IsCode, HasRegisters};
+ghost use Rattle.bpf_insn.specs.Form.{half_form, Fits, IsListed};
+ghost use Rattle.bpf_insn.specs.Code.{IsPiece, insns_of, Decodes, IsDecoded, Gives, IsCode};
+ghost use Rattle.bpf_insn.specs.Insn.{slot, slot_bytes, HasRegisters};
 
 use crate::insn::{Insn, InsnList};
 use crate::table::{HALF, form_at};

@@ -1,7 +1,8 @@
 ghost use Rattle.std.specs.Prelude.{◌≡◌, Ok, IfOk, FitsSigned};
 ghost use Rattle.std.specs.Int.{w16, w32};
 ghost use Rattle.std.specs.List.{flat_map};
-ghost use Rattle.bpf_insn.specs.Code.{slot_bytes, Decodes, IsCode, HasRegisters};
+ghost use Rattle.bpf_insn.specs.Code.{Decodes, IsCode};
+ghost use Rattle.bpf_insn.specs.Insn.{slot_bytes, HasRegisters};
 
 use crate::insn::Insn;
 use lists::{Bytes, OutOfMemory};

@@ -4,7 +4,7 @@ ghost use Rattle.bpf_insn.specs.declared.table.Form.{Form};
 ghost use Rattle.bpf_insn.specs.declared.operation.Operation.{Operation};
 ghost use Rattle.bpf_insn.specs.Operation.{opcode_of};
 ghost use Rattle.bpf_insn.specs.Form.{form_of, half_form, AllowsOffset, AllowsImm, Fits};
-ghost use Rattle.bpf_insn.specs.Code.{AreApart};
+ghost use Rattle.bpf_insn.specs.Table.{AreApart};
 
 use crate::insn::Insn;
 use crate::operation::Atomic;
