@@ -254,14 +254,14 @@ impl Atomic {
     pub fn writes_source(self) -> bool
         ensures { IsTrue result ↔ IsSourceWritten self }
     {
-        match self {
-            Atomic::Add | Atomic::Or | Atomic::And | Atomic::Xor | Atomic::CompareExchange => false,
+        matches!(
+            self,
             Atomic::FetchAdd
-            | Atomic::FetchOr
-            | Atomic::FetchAnd
-            | Atomic::FetchXor
-            | Atomic::Exchange => true,
-        }
+                | Atomic::FetchOr
+                | Atomic::FetchAnd
+                | Atomic::FetchXor
+                | Atomic::Exchange
+        )
     }
 }
 
