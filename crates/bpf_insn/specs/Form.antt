@@ -72,7 +72,7 @@ form_of operation =
     let f = fields_of operation in
     record { opcode = opcode_of operation; targets = f.targets; sources = f.sources; offsets = f.offsets; imms = f.imms }
 
--- the second slot of a wide load, which has an immediate alone
+-- RFC 9669 §3.2: the second slot of a wide load, which has an immediate alone
 abbrev pub half_form : Form
 half_form = record { opcode = 0; targets = unused; sources = unused; offsets = Zero; imms = imms.Any }
 
@@ -107,7 +107,7 @@ pub record Fits (form : Form) (insn : Insn) : Type 0 where
 abbrev pub IsListed : Insn → Type 0
 IsListed insn = (operation : Operation) × Fits (form_of operation) insn
 
--- RFC 9669 §5.4: the opcode of the one instruction that has two slots
+-- RFC 9669 §3.2: the opcode of the one instruction that has two slots
 abbrev pub wide_load : ℕ
 wide_load = opcode_of LoadWide
 

@@ -54,13 +54,14 @@ comparison_code comparison.Le = 0xb
 comparison_code comparison.Slt = 0xc
 comparison_code comparison.Sle = 0xd
 
--- RFC 9669 §5
+-- RFC 9669 §5: W, H, B and DW
 abbrev pub size_code : Size → ℕ
 size_code size.Word = 0
 size_code size.Half = 1
 size_code size.Byte = 2
 size_code size.Double = 3
 
+-- RFC 9669 §5.2
 abbrev pub narrow_code : Narrow → ℕ
 narrow_code narrow.Word = 0
 narrow_code narrow.Half = 1
@@ -79,7 +80,7 @@ atomic_code atomic.FetchXor = 0xa1
 atomic_code atomic.Exchange = 0xe1
 atomic_code atomic.CompareExchange = 0xf1
 
--- RFC 9669 §3.2: ALU and ALU64, JMP32 and JMP
+-- RFC 9669 §3.3: ALU and ALU64, JMP32 and JMP
 abbrev pub alu_class : Width → ℕ
 alu_class Bits32 = 4
 alu_class Bits64 = 7
@@ -88,6 +89,7 @@ abbrev pub jump_class : Width → ℕ
 jump_class Bits32 = 6
 jump_class Bits64 = 5
 
+-- RFC 9669 §3.3
 abbrev pub class_of : Operation → ℕ
 class_of (Alu width op operand) = alu_class width
 class_of (Neg width) = alu_class width
@@ -125,6 +127,7 @@ specific_of (operation.Atomic Bits32) = 4 * 6 + 0
 specific_of (operation.Atomic Bits64) = 4 * 6 + 3
 specific_of LoadWide = 4 * 0 + 3
 
+-- RFC 9669 §3.1
 abbrev pub opcode_of : Operation → ℕ
 opcode_of operation = 8 * specific_of operation + class_of operation
 

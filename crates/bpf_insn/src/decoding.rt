@@ -29,7 +29,7 @@ impl From<OutOfMemory> for DecodeEnd {
     }
 }
 
-/// The opcode of a wide load, which has two slots (RFC 9669 §5.4).
+/// The opcode of a wide load, which has two slots (RFC 9669 §3.2).
 const WIDE_LOAD: u8 = 0x18;
 
 /// The instructions of the bytes, slot by slot.

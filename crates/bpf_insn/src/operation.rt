@@ -84,41 +84,49 @@ pub enum Narrow {
 /// What an instruction does, as far as its opcode says: one value for each opcode and source form.
 #[derive(Clone, Copy, Debug, PartialEq, Eq)]
 pub enum Operation {
+    /// Puts the result into the target.
     Alu {
         width: Width,
         op: Arithmetic,
         operand: Operand,
     },
+    /// Puts the target's negative into it.
     Neg {
         width: Width,
     },
+    /// Puts the target's low bytes into an order.
     End {
         order: Order,
     },
     Jump {
         distance: Distance,
     },
+    /// Jumps by the offset where the test of target and operand holds.
     Branch {
         width: Width,
         test: Comparison,
         operand: Operand,
     },
+    /// Calls a helper where the source is 0, and a function of the program where it is 1.
     Call,
     Exit,
+    /// Puts what stands at source and offset into the target.
     Load {
         size: Size,
     },
     LoadSigned {
         size: Narrow,
     },
+    /// Writes the operand at target and offset.
     Store {
         size: Size,
         operand: Operand,
     },
-    /// What is done to the memory is in the immediate.
+    /// Changes what stands at target and offset, as the immediate says.
     Atomic {
         width: Width,
     },
+    /// Puts the immediates of two slots into the target, the low half first.
     LoadWide,
 }
 
@@ -231,6 +239,7 @@ impl Narrow {
 
 impl Atomic {
     /// The operation of an immediate (RFC 9669 §5.3).
+    #[inline]
     pub fn from_imm(imm: i32) -> Option<Self>
         ensures found { IfSome result (λ op. pos (atomic_code op) ≡ imm) }
         ensures only { (op : Atomic) → pos (atomic_code op) ≡ imm → result ≡ Some op }
@@ -251,6 +260,7 @@ impl Atomic {
     }
 
     /// Whether the old value is put into the source register.
+    #[inline]
     pub fn writes_source(self) -> bool
         ensures { IsTrue result ↔ IsSourceWritten self }
     {
@@ -267,6 +277,7 @@ impl Atomic {
 
 impl Operation {
     /// What the instructions of an opcode do, where there are such instructions.
+    #[inline]
     pub fn from_opcode(opcode: u8) -> Option<Self>
         ensures found { IfSome result (λ operation. opcode_of operation ≡ opcode) }
         ensures only { (operation : Operation) → opcode_of operation ≡ opcode → result ≡ Some operation }
