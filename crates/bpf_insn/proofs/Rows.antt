@@ -1,5 +1,5 @@
 -- The rows of the table: the forms of all operations, by opcode.
-use Rattle.std.proofs.Common.{◌≡◌, ℕ, zero, suc, Bool, true, false, List, [], ◌∷◌, Some, None, refl, sym, ap, ◌∙◌, subst, map, arith, cond, Option}
+use Rattle.std.proofs.Common.{◌≡◌, ℕ, zero, suc, Bool, true, false, List, [], ◌∷◌, Some, None, refl, sym, subst, map, arith, cond, Option}
 use Rattle.std.specs.Prelude.{◌==◌, All, Contains, IfSome}
 use Rattle.std.specs.List.{find}
 use Rattle.bpf_insn.specs.declared.operation.Arithmetic.{Arithmetic}
@@ -20,7 +20,7 @@ use Rattle.bpf_insn.specs.declared.operation.Width.TheVariants.{Bits32, Bits64}
 use Rattle.bpf_insn.specs.declared.table.Form.{Form}
 use Rattle.bpf_insn.specs.declared.table.TheConstants.{ROWS}
 use Rattle.bpf_insn.specs.Operation.{opcode_of}
-use Rattle.bpf_insn.specs.Form.{form_of}
+use Rattle.bpf_insn.specs.Form.{form_of, IsForm}
 use Rattle.bpf_insn.specs.Table.{AreApart}
 use Rattle.bpf_insn.proofs.Apart.{apart_from_test}
 
@@ -105,21 +105,18 @@ rows : ROWS ≡ map form_of operations
 rows = refl
 
 -- each row of a list made of operations is a form of one
-forms : (os : List Operation) → All (λ form. (o : Operation) × (form ≡ form_of o)) (map form_of os)
+forms : (os : List Operation) → All IsForm (map form_of os)
 forms [] k d within = absurd (omega arith)
 forms (o ∷ os) zero d within = (o, refl)
 forms (o ∷ os) (suc k) d within = forms os k d (omega arith)
 
-pub only_forms : All (λ form. (o : Operation) × (form ≡ form_of o)) ROWS
-only_forms = subst (All (λ form. (o : Operation) × (form ≡ form_of o))) (sym rows) (forms operations)
+pub only_forms : All IsForm ROWS
+only_forms = subst (All IsForm) (sym rows) (forms operations)
 
 pub rows_apart : AreApart ROWS
 rows_apart = apart_from_test ROWS refl
 
--- a row that is found is the form of an operation with that opcode
-pub opcode_listed : (found : Option Form) (n : ℕ) → IfSome found (λ form. Contains ROWS form × (form.opcode ≡ n)) → IfSome found (λ form. (o : Operation) × (opcode_of o ≡ n) × (form ≡ form_of o))
-opcode_listed None n h = tt
-opcode_listed (Some form) n h =
-    let here = only_forms h.0.0 form h.0.1 in
-    let is : form ≡ form_of here.0 = sym h.0.2 ∙ here.1 in
-    (here.0, sym (ap (λ row. row.opcode) is) ∙ h.1, is)
+-- what is found among the rows is a form
+pub form_found : (found : Option Form) (n : ℕ) → IfSome found (λ form. Contains ROWS form × (form.opcode ≡ n)) → IfSome found (λ form. IsForm form × (form.opcode ≡ n))
+form_found None n h = tt
+form_found (Some form) n h = (subst IsForm h.0.2 (only_forms h.0.0 form h.0.1), h.1)

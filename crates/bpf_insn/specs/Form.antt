@@ -72,6 +72,10 @@ form_of operation =
     let f = fields_of operation in
     record { opcode = opcode_of operation; targets = f.targets; sources = f.sources; offsets = f.offsets; imms = f.imms }
 
+-- a row of the table
+abbrev pub IsForm : Form → Type 0
+IsForm form = (operation : Operation) × (form ≡ form_of operation)
+
 -- RFC 9669 §3.2: the second slot of a wide load, which has an immediate alone
 abbrev pub half_form : Form
 half_form = record { opcode = 0; targets = unused; sources = unused; offsets = Zero; imms = imms.Any }

@@ -35,10 +35,13 @@ const WIDE_LOAD: u8 = 0x18;
 /// The instructions of the bytes, slot by slot.
 pub fn decode(alloc: Global, bytes: &[u8]) -> Result<InsnList, DecodeEnd>
     ensures exact { IsDecoded bytes.now result }
+    ensures only { (answer : Result (List Insn) ℕ) →
+        Decodes bytes.now answer → Gives result answer }
+
+    // What the instructions keep.
     ensures bytes { IfOk result (λ insns. flat_map slot_bytes insns ≡ bytes.now) }
     ensures code { IfOk result IsCode }
     ensures registers { IfOk result (All HasRegisters) }
-    ensures only { (answer : Result (List Insn) ℕ) → Decodes bytes.now answer → Gives result answer }
 {
     pieces(alloc, bytes)
 }

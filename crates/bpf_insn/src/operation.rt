@@ -280,7 +280,8 @@ impl Operation {
     #[inline]
     pub fn from_opcode(opcode: u8) -> Option<Self>
         ensures found { IfSome result (λ operation. opcode_of operation ≡ opcode) }
-        ensures only { (operation : Operation) → opcode_of operation ≡ opcode → result ≡ Some operation }
+        ensures only { (operation : Operation) →
+            opcode_of operation ≡ opcode → result ≡ Some operation }
     {
         let specific = opcode / 8;
         match opcode % 8 {
@@ -300,7 +301,8 @@ impl Operation {
 fn wide_load(specific: u8) -> Option<Operation>
     requires { specific < 32 }
     ensures found { IfSome result (IsOpcode 0 specific) }
-    ensures only { (operation : Operation) → IsOpcode 0 specific operation → result ≡ Some operation }
+    ensures only { (operation : Operation) →
+        IsOpcode 0 specific operation → result ≡ Some operation }
 {
     if specific == 3 {
         Some(Operation::LoadWide)
@@ -313,7 +315,8 @@ fn wide_load(specific: u8) -> Option<Operation>
 fn load(specific: u8) -> Option<Operation>
     requires { specific < 32 }
     ensures found { IfSome result (IsOpcode 1 specific) }
-    ensures only { (operation : Operation) → IsOpcode 1 specific operation → result ≡ Some operation }
+    ensures only { (operation : Operation) →
+        IsOpcode 1 specific operation → result ≡ Some operation }
 {
     match specific / 4 {
         3 => Some(Operation::Load {
@@ -330,7 +333,8 @@ fn load(specific: u8) -> Option<Operation>
 fn store(specific: u8) -> Option<Operation>
     requires { specific < 32 }
     ensures found { IfSome result (IsOpcode 2 specific) }
-    ensures only { (operation : Operation) → IsOpcode 2 specific operation → result ≡ Some operation }
+    ensures only { (operation : Operation) →
+        IsOpcode 2 specific operation → result ≡ Some operation }
 {
     match specific / 4 {
         3 => Some(Operation::Store {
@@ -345,7 +349,8 @@ fn store(specific: u8) -> Option<Operation>
 fn store_register(specific: u8) -> Option<Operation>
     requires { specific < 32 }
     ensures found { IfSome result (IsOpcode 3 specific) }
-    ensures only { (operation : Operation) → IsOpcode 3 specific operation → result ≡ Some operation }
+    ensures only { (operation : Operation) →
+        IsOpcode 3 specific operation → result ≡ Some operation }
 {
     match specific {
         12..=15 => Some(Operation::Store {
@@ -366,7 +371,8 @@ fn store_register(specific: u8) -> Option<Operation>
 fn alu(width: Width, specific: u8) -> Option<Operation>
     requires { specific < 32 }
     ensures found { IfSome result (IsOpcode (alu_class width) specific) }
-    ensures only { (operation : Operation) → IsOpcode (alu_class width) specific operation → result ≡ Some operation }
+    ensures only { (operation : Operation) →
+        IsOpcode (alu_class width) specific operation → result ≡ Some operation }
 {
     match (specific, width) {
         (16, _) => Some(Operation::Neg { width }),
@@ -389,7 +395,8 @@ fn alu(width: Width, specific: u8) -> Option<Operation>
 fn jump(width: Width, specific: u8) -> Option<Operation>
     requires { specific < 32 }
     ensures found { IfSome result (IsOpcode (jump_class width) specific) }
-    ensures only { (operation : Operation) → IsOpcode (jump_class width) specific operation → result ≡ Some operation }
+    ensures only { (operation : Operation) →
+        IsOpcode (jump_class width) specific operation → result ≡ Some operation }
 {
     match (specific, width) {
         (0, Width::Bits64) => Some(Operation::Jump {

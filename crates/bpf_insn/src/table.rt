@@ -3,7 +3,7 @@ ghost use Rattle.std.specs.List.{IsAllAdjacentAnswer};
 ghost use Rattle.bpf_insn.specs.declared.table.Form.{Form};
 ghost use Rattle.bpf_insn.specs.declared.operation.Operation.{Operation};
 ghost use Rattle.bpf_insn.specs.Operation.{opcode_of};
-ghost use Rattle.bpf_insn.specs.Form.{form_of, half_form, AllowsOffset, AllowsImm, Fits};
+ghost use Rattle.bpf_insn.specs.Form.{form_of, half_form, AllowsOffset, AllowsImm, Fits, IsForm};
 ghost use Rattle.bpf_insn.specs.Table.{AreApart};
 
 use crate::insn::Insn;
@@ -263,15 +263,16 @@ fn ascends(rows: &[Form]) -> bool
 pub fn instructions() -> Table<119>
     ensures apart { AreApart result.rows }
     ensures every { (operation : Operation) → Contains result.rows (form_of operation) }
-    ensures only { All (λ form. (operation : Operation) × (form ≡ form_of operation)) result.rows }
+    ensures only { All IsForm result.rows }
 {
     Table { rows: ROWS }
 }
 
 /// The form of an opcode.
 pub(crate) fn form_at(opcode: u8) -> Option<Form>
-    ensures found { IfSome result (λ form. (operation : Operation) × (opcode_of operation ≡ opcode) × (form ≡ form_of operation)) }
-    ensures every { (operation : Operation) → opcode_of operation ≡ opcode → result ≡ Some (form_of operation) }
+    ensures found { IfSome result (λ form. IsForm form × (form.opcode ≡ opcode)) }
+    ensures every { (operation : Operation) →
+        opcode_of operation ≡ opcode → result ≡ Some (form_of operation) }
 {
     look_up(&ROWS, opcode)
 }
@@ -280,7 +281,8 @@ pub(crate) fn form_at(opcode: u8) -> Option<Form>
 fn look_up(rows: &[Form], opcode: u8) -> Option<Form>
     requires { AreApart rows.now }
     ensures found { IfSome result (λ form. Contains rows.now form × (form.opcode ≡ opcode)) }
-    ensures every { (form : Form) → Contains rows.now form → form.opcode ≡ opcode → result ≡ Some form }
+    ensures every { (form : Form) →
+        Contains rows.now form → form.opcode ≡ opcode → result ≡ Some form }
 {
     match rows.binary_search_by_key(&opcode, |row| row.opcode) {
         Ok(place) => Some(rows[place]),

@@ -1,5 +1,5 @@
 use Rattle.std.proofs.Common.{arith}
-use Rattle.bpf_insn.proofs.Codes.{bytes_decoded, code_decoded, registers_decoded}
+use Rattle.bpf_insn.proofs.Decoded.{bytes_decoded, code_decoded, registers_decoded}
 use Rattle.bpf_insn.proofs.Splits.{Gives-decoded}
 use Rattle.bpf_insn.proofs.decoding.decode.Goals as goal
 

@@ -1,4 +1,5 @@
-use Rattle.bpf_insn.proofs.Codes.{code_registers, Decodes-taken}
+use Rattle.bpf_insn.proofs.Registers.{code_registers}
+use Rattle.bpf_insn.proofs.Written.{Decodes-taken}
 use Rattle.bpf_insn.proofs.encoding.encode.Goals as goal
 
 pub slot_of-requires : goal.slot_of-requires

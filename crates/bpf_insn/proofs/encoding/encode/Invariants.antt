@@ -1,7 +1,7 @@
 use Rattle.std.proofs.Common.{◌≡◌, take}
 use Rattle.std.specs.List.{flat_map, AllByRecursion}
 use Rattle.bpf_insn.specs.Insn.{slot_bytes}
-use Rattle.bpf_insn.proofs.Codes.{InRange}
+use Rattle.bpf_insn.proofs.Written.{InRange}
 use Rattle.bpf_insn.proofs.encoding.encode.Given as goal
 
 abbrev pub invariant-loop-insn : goal.invariant-loop-insn
