@@ -1,0 +1,9 @@
+pub mod Apart
+pub mod Rows
+pub mod Slots
+pub mod Pieces
+pub mod Splits
+pub mod WideLoads
+pub mod Registers
+pub mod Written
+pub mod Decoded

@@ -1,0 +1,5 @@
+pub mod Operation
+pub mod Insn
+pub mod Form
+pub mod Table
+pub mod Code

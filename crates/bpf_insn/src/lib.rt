@@ -1,0 +1,18 @@
+//! Instructions of BPF as RFC 9669 defines them, read from bytes and written as bytes by one table of their forms.
+#![tactic(auto)]
+
+mod decoding;
+mod encoding;
+mod insn;
+mod operation;
+mod table;
+#[cfg(test)]
+mod tests;
+
+pub use decoding::{DecodeEnd, decode};
+pub use encoding::encode;
+pub use insn::{Insn, InsnList};
+pub use operation::{
+    Arithmetic, Atomic, Comparison, Distance, Narrow, Operand, Operation, Order, Size, Width,
+};
+pub use table::{Form, ImmRule, OffsetRule, Table, instructions, rows_apart};
