@@ -1,5 +1,5 @@
 ghost use Rattle.std.specs.Prelude.{◌≡◌, true, List, ◌++◌, map, IfOk, OnOk};
-ghost use Rattle.script_text.specs.Handed.{has_frame, is_frame};
+ghost use Rattle.script_text.specs.Handed.{has_frame, has_frame_size};
 ghost use Rattle.xdp_tool.specs.Lanes.{Progress, ShowAll, idle, advance_from};
 ghost use Rattle.xdp_tool.specs.Queues.{Queue, queues_on, queues_of};
 
@@ -76,7 +76,7 @@ impl<'a> Walk<'a> {
         processor: u32,
         frame: &[u8],
     ) -> Result<(), OutOfMemory>
-        requires { is_frame frame.now ≡ true }
+        requires { has_frame_size frame.now ≡ true }
         ensures stands { (phase : Phase) → Stands self.old phase
             → OnOk result (Stands self.new (with_packet line processor frame.now phase)) }
         ensures same { self.new.interfaces.now ≡ self.old.interfaces.now }
@@ -94,7 +94,7 @@ fn carry_on(
     processor: u32,
     frame: &[u8],
 ) -> Result<(), OutOfMemory>
-    requires { is_frame frame.now ≡ true }
+    requires { has_frame_size frame.now ≡ true }
     ensures { (progress : List Progress) → ShowAll lanes.old.items progress
         → OnOk result (ShowAll lanes.new.items (advance_from 0 processor state.now frame.now progress)) }
 {
