@@ -1,0 +1,33 @@
+-- The kinds of types: BPF Type Format (Linux kernel documentation, bpf/btf), section 2.2.
+use Rattle.std.specs.Prelude.{ℕ, ◌+◌, Bool, ◌==◌, ◌&&◌, nat_lt, nat_le, List, [], ◌∷◌, if◌then◌else◌}
+use Rattle.std.specs.List.{list_any}
+use Rattle.btf_types.specs.declared.kind.TheConstants.{INT, PTR, ARRAY, STRUCT, UNION, ENUM, TYPEDEF, VOLATILE, CONST, RESTRICT, FUNC, FUNC_PROTO, VAR, DATASEC, DECL_TAG, TYPE_TAG, ENUM64}
+
+abbrev pub is_one_of : List ℕ → ℕ → Bool
+is_one_of kinds kind = list_any (λ one. one == kind) kinds
+
+unfoldable pub is_known : ℕ → Bool
+is_known kind = nat_le INT kind && nat_le kind ENUM64
+
+-- the bytes of each entry: of a member, a variable of a section, an enumerator or a parameter
+unfoldable pub entry_width : ℕ → ℕ
+entry_width kind =
+    if is_one_of (STRUCT ∷ UNION ∷ DATASEC ∷ ENUM64 ∷ []) kind then 12
+    else if is_one_of (ENUM ∷ FUNC_PROTO ∷ []) kind then 8
+    else 0
+
+-- the bytes behind the first twelve of a type without entries
+unfoldable pub tail_width : ℕ → ℕ
+tail_width kind =
+    if kind == ARRAY then 12
+    else if is_one_of (INT ∷ VAR ∷ DECL_TAG ∷ []) kind then 4
+    else 0
+
+-- members, enumerators and parameters begin with their names
+unfoldable pub names_entries : ℕ → Bool
+names_entries kind = is_one_of (STRUCT ∷ UNION ∷ ENUM ∷ FUNC_PROTO ∷ ENUM64 ∷ []) kind
+
+-- the third number of these is another type's
+unfoldable pub has_target : ℕ → Bool
+has_target kind =
+    is_one_of (PTR ∷ TYPEDEF ∷ VOLATILE ∷ CONST ∷ RESTRICT ∷ FUNC ∷ FUNC_PROTO ∷ VAR ∷ DECL_TAG ∷ TYPE_TAG ∷ []) kind

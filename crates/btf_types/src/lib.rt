@@ -1,0 +1,10 @@
+//! BTF, the type format of BPF objects: its types as rows with their parts, names and sizes.
+#![tactic(auto)]
+
+mod bad_btf;
+pub mod kind;
+mod type_bytes;
+mod types;
+
+pub use bad_btf::{BadBtf, BtfEnd};
+pub use types::{Part, TypeRow};
