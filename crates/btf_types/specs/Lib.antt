@@ -1,2 +1,4 @@
 pub mod Kind
 pub mod TypeBytes
+pub mod Sections
+pub mod Breaks

@@ -2,9 +2,11 @@
 #![tactic(auto)]
 
 mod bad_btf;
+mod header;
 pub mod kind;
 mod type_bytes;
 mod types;
+mod walk;
 
 pub use bad_btf::{BadBtf, BtfEnd};
 pub use types::{Part, TypeRow};

@@ -47,6 +47,15 @@ pub(crate) fn type_len(head: &[u8]) -> usize
     12 + kind::tail_width(kind) + kind::entry_width(kind) * entry_count(head) as usize
 }
 
+/// The bytes behind the type.
+pub(crate) fn bytes_behind(head: &[u8]) -> &[u8]
+    requires { bytes_of.IsWhole head.now }
+    ensures value { result.now ≡ drop (bytes_of.type_length head.now) head.now }
+    ensures shorter { length result.now + 12 ≤ length head.now }
+{
+    &head[type_len(head)..]
+}
+
 /// Whether the number at a place of each of the type's entries is below a limit.
 #[tactic(auto, using(crate::proofs::Entries::for_loop))]
 fn entries_below(head: &[u8], place: usize, limit: u64) -> bool
