@@ -1,3 +1,4 @@
 pub mod Entries
 pub mod Headers
 pub mod TypesIn
+pub mod Names

@@ -4,9 +4,11 @@
 mod bad_btf;
 mod header;
 pub mod kind;
+mod size;
 mod type_bytes;
 mod types;
 mod walk;
 
 pub use bad_btf::{BadBtf, BtfEnd};
-pub use types::{Part, TypeRow};
+pub use size::Size;
+pub use types::{Part, TypeRow, Types};
