@@ -5,3 +5,4 @@ pub mod Breaks
 pub mod TypeTable
 pub mod Reading
 pub mod Size
+pub mod Scale

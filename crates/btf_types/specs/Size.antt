@@ -34,9 +34,9 @@ sizing_of_row types (Some row) =
 unfoldable pub sizing : TypeTable → ℕ → Sizing
 sizing types number = sizing_of_row types (type_at types number)
 
--- the size of a type in bytes
+-- the size of a type in bytes; all sizes are below 2 ^ 32
 pub data HasSize (types : TypeTable) : ℕ → ℕ → Type 0 where
-  own : {number size : ℕ} → sizing types number ≡ Own size → HasSize types number size
+  own : {number size : ℕ} → sizing types number ≡ Own size → size < 2 ^ 32 → HasSize types number size
   of_target : {number target size : ℕ} → sizing types number ≡ OfTarget target → HasSize types target size → HasSize types number size
   of_elements : {number count element size : ℕ} → sizing types number ≡ OfElements count element → HasSize types element size → count * size < 2 ^ 32 → HasSize types number (count * size)
 
