@@ -4,7 +4,7 @@ use Rattle.std.specs.List.{list_any}
 use Rattle.btf_types.specs.declared.kind.TheConstants.{INT, PTR, ARRAY, STRUCT, UNION, ENUM, TYPEDEF, VOLATILE, CONST, RESTRICT, FUNC, FUNC_PROTO, VAR, DATASEC, DECL_TAG, TYPE_TAG, ENUM64}
 
 abbrev pub is_one_of : List ℕ → ℕ → Bool
-is_one_of kinds kind = list_any (λ one. one == kind) kinds
+is_one_of kinds kind = list_any (λ one. kind == one) kinds
 
 unfoldable pub is_known : ℕ → Bool
 is_known kind = nat_le INT kind && nat_le kind ENUM64

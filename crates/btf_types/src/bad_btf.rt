@@ -1,5 +1,5 @@
 ghost use Rattle.std.specs.Prelude.{◌≡◌};
-ghost use Rattle.btf_types.specs.declared.bad_btf.BtfEnd.TheVariants.{OutOfMemory as NoMemory};
+ghost use Rattle.btf_types.specs.declared.bad_btf.BtfEnd.TheVariants.{BadBtf as Broken, OutOfMemory as NoMemory};
 
 use lists::OutOfMemory;
 
@@ -22,5 +22,13 @@ impl From<OutOfMemory> for BtfEnd {
 
     fn from(_: OutOfMemory) -> Self {
         BtfEnd::OutOfMemory
+    }
+}
+
+impl From<BadBtf> for BtfEnd {
+    ghost from_gives = { λ bad end. end ≡ Broken bad };
+
+    fn from(bad: BadBtf) -> Self {
+        BtfEnd::BadBtf(bad)
     }
 }

@@ -4,11 +4,13 @@
 mod bad_btf;
 mod header;
 pub mod kind;
+mod read;
 mod size;
 mod type_bytes;
 mod types;
 mod walk;
 
 pub use bad_btf::{BadBtf, BtfEnd};
+pub use read::read_btf;
 pub use size::Size;
 pub use types::{Part, TypeRow, Types};

@@ -170,3 +170,19 @@ pub(crate) fn push_parts(parts: &mut List<Part>, head: &[u8]) -> Result<(), OutO
         _ => Ok(()),
     }
 }
+
+/// The row of a type, whose parts stand from number `first` on.
+#[tactic(auto, unfolding(crate::specs::TypeBytes::row_of))]
+pub(crate) fn row_of(head: &[u8], first: u32, count: u32) -> TypeRow
+    requires whole { bytes_of.IsWhole head.now }
+    requires count { count ≡ length (bytes_of.parts_of head.now) }
+    ensures { result ≡ bytes_of.row_of first head.now }
+{
+    TypeRow {
+        kind: kind_of(head),
+        name: word_at(head, 0),
+        size_or_target: word_at(head, 8),
+        first,
+        count,
+    }
+}

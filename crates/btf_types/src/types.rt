@@ -1,6 +1,6 @@
 ghost use Rattle.std.specs.Prelude.{◌≡◌, ◌<◌, ◌≤◌, length, position, slice_get, ◌==◌, Some};
 ghost use Rattle.std.specs.List.{before_first};
-ghost use Rattle.btf_types.specs.TypeTable.{is_section_named, name_at, section_vars, type_at, PartFits, RowFits};
+ghost use Rattle.btf_types.specs.TypeTable.{is_section_named, name_at, section_vars, type_at, IsSound, PartFits, RowFits};
 
 use crate::kind;
 use lists::{Bytes, List};
@@ -67,6 +67,17 @@ fn up_to_zero(bytes: &[u8]) -> &[u8]
 }
 
 impl Types {
+    pub(crate) fn new(rows: List<TypeRow>, parts: List<Part>, strings: Bytes) -> Self
+        requires { IsSound (record { rows = rows; parts = parts; strings = strings }) }
+        ensures { result ≡ record { rows = rows; parts = parts; strings = strings } }
+    {
+        Types {
+            rows,
+            parts,
+            strings,
+        }
+    }
+
     /// The number of types.
     pub fn len(&self) -> u32
         ensures { result ≡ length self.now.rows }
