@@ -34,28 +34,28 @@ broken_in_header bytes bad h =
 module _ (bytes section strings : List ℕ) (end : ℕ) (types_are : section ≡ type_section bytes) (strings_are : strings ≡ strings_of bytes) (end_is : end ≡ types_end bytes) (header_kept : first_broken (header_rules bytes) ≡ None) where
   pub broken_in_walk : (bad : BadBtf) → first_broken (walk_list section end) ≡ Some bad → first_break bytes ≡ Some bad
   broken_in_walk bad h =
-    let header = header_rules bytes in
-    let walk = walk_list section end in
-    let names = name_list section end (length strings) in
-    let references = reference_list section end (length (types_in section)) in
-    first_break-sections bytes section strings end types_are strings_are end_is
-    ∙ first_broken-append_some (header ++ walk ++ names) references bad (first_broken-append_some (header ++ walk) names bad (first_broken-append_none header walk header_kept ∙ h))
+      let header = header_rules bytes in
+      let walk = walk_list section end in
+      let names = name_list section end (length strings) in
+      let references = reference_list section end (length (types_in section)) in
+      first_break-sections bytes section strings end types_are strings_are end_is
+      ∙ first_broken-append_some (header ++ walk ++ names) references bad (first_broken-append_some (header ++ walk) names bad (first_broken-append_none header walk header_kept ∙ h))
 
   pub broken_in_names : first_broken (walk_list section end) ≡ None → (bad : BadBtf) → first_broken (name_list section end (length strings)) ≡ Some bad → first_break bytes ≡ Some bad
   broken_in_names walk_kept bad h =
-    let header = header_rules bytes in
-    let walk = walk_list section end in
-    let names = name_list section end (length strings) in
-    let references = reference_list section end (length (types_in section)) in
-    first_break-sections bytes section strings end types_are strings_are end_is
-    ∙ first_broken-append_some (header ++ walk ++ names) references bad (first_broken-append_none (header ++ walk) names (first_broken-append_none header walk header_kept ∙ walk_kept) ∙ h)
+      let header = header_rules bytes in
+      let walk = walk_list section end in
+      let names = name_list section end (length strings) in
+      let references = reference_list section end (length (types_in section)) in
+      first_break-sections bytes section strings end types_are strings_are end_is
+      ∙ first_broken-append_some (header ++ walk ++ names) references bad (first_broken-append_none (header ++ walk) names (first_broken-append_none header walk header_kept ∙ walk_kept) ∙ h)
 
   pub left_to_references : first_broken (walk_list section end) ≡ None → first_broken (name_list section end (length strings)) ≡ None → (types : ℕ) → types ≡ length (types_in section) → first_break bytes ≡ first_broken (reference_list section end types)
   left_to_references walk_kept names_kept types count =
-    let header = header_rules bytes in
-    let walk = walk_list section end in
-    let names = name_list section end (length strings) in
-    let references = reference_list section end (length (types_in section)) in
-    first_break-sections bytes section strings end types_are strings_are end_is
-    ∙ first_broken-append_none (header ++ walk ++ names) references (first_broken-append_none (header ++ walk) names (first_broken-append_none header walk header_kept ∙ walk_kept) ∙ names_kept)
-    ∙ rw count refl
+      let header = header_rules bytes in
+      let walk = walk_list section end in
+      let names = name_list section end (length strings) in
+      let references = reference_list section end (length (types_in section)) in
+      first_break-sections bytes section strings end types_are strings_are end_is
+      ∙ first_broken-append_none (header ++ walk ++ names) references (first_broken-append_none (header ++ walk) names (first_broken-append_none header walk header_kept ∙ walk_kept) ∙ names_kept)
+      ∙ rw count refl

@@ -3,8 +3,7 @@ use Rattle.std.proofs.Common.{◌≡◌, ℕ, zero, suc, ◌+◌, ◌-◌, ◌*�
 use Rattle.std.proofs.Math.Nat.{mul-suc}
 use Rattle.std.proofs.lemmas.List.Folds.{list_all-map}
 use Rattle.std.specs.List.{list_all}
-use Rattle.btf_types.specs.Kind.{entry_width, names_entries, tail_width}
-use Rattle.btf_types.specs.declared.kind.TheConstants.{ARRAY}
+use Rattle.btf_types.specs.Kind.{ARRAY, entry_width, names_entries, tail_width}
 use Rattle.btf_types.specs.TypeBytes.{IsWhole, entries_from, entry_count, kind_of, type_length}
 
 -- kinds whose entries begin with a name have entries of four bytes at least
@@ -49,5 +48,7 @@ unfolding type_length tail_width
 array_fits head h e = let tail = rw e at h.tail in omega (arith, tail)
 
 pub ruleset for_loop = (entries_fit, entries_from_more)
+
 pub ruleset for_names = (list_all-map, named_width)
+
 pub ruleset for_references = (list_all-map, array_fits)

@@ -33,7 +33,6 @@ position-none p xs d fails =
     let e = position_or_len_is p xs (length xs) d (omega arith) fails (λ h. absurd (omega arith)) in
     rw (e, le-ltb (length xs) (length xs) (omega arith)) refl
 
-
 -- the place of a type is one below its number
 pub type_at-next : (types : TypeTable) (place : ℕ) (row : TypeRow) → type_at types (place + 1) ≡ Some row → (place < length types.rows) × (get_or types.rows place row ≡ row)
 type_at-next types place row h =

@@ -22,16 +22,16 @@ module _ (types : TypeTable) where
   pub size_of_target : {n m t : ℕ} → sizing types n ≡ OfTarget m → HasSize types n t → HasSize types m t
   size_of_target e (own f small) = cc
   size_of_target {t = t} e (of_target {target = target} f rest) =
-    subst (λ k. HasSize types k t) (cc) rest
+      subst (λ k. HasSize types k t) (cc) rest
   size_of_target e (of_elements f rest small) = cc
 
   pub size_of_elements : {n count m t : ℕ} → sizing types n ≡ OfElements count m → HasSize types n t → (size : ℕ) × HasSize types m size × (count * size < 2 ^ 32) × (t ≡ count * size)
   size_of_elements e (own f small) = cc
   size_of_elements e (of_target f rest) = cc
   size_of_elements {count = count} {m = m} e (of_elements {count = times} {element = element} {size = size} f rest small) =
-    let same : times ≡ count = cc in
-    let there : element ≡ m = cc in
-    (size, subst (λ k. HasSize types k size) there rest, subst (λ k. k * size < 2 ^ 32) same small, ap (λ k. k * size) same)
+      let same : times ≡ count = cc in
+      let there : element ≡ m = cc in
+      (size, subst (λ k. HasSize types k size) there rest, subst (λ k. k * size < 2 ^ 32) same small, ap (λ k. k * size) same)
 
   pub size_absent : {n t : ℕ} → sizing types n ≡ Absent → HasSize types n t → ⊥
   size_absent e (own f small) = cc
@@ -101,17 +101,17 @@ module _ (types : TypeTable) where
   unfolding after
   meets_from_after zero n met h = let e : n ≡ met = cc in subst (λ m. Meets types n m) e itself
   meets_from_after (suc k) n met h =
-    let one = after_suc k n met h in
-    further one.1 (meets_from_after k one.0 met one.2)
+      let one = after_suc k n met h in
+      further one.1 (meets_from_after k one.0 met one.2)
 
   -- what is met after all is met after the first of them, and the others
   pub after_split : (i d n met : ℕ) → after types (i + d) n ≡ Some met → (mid : ℕ) × (after types i n ≡ Some mid) × (after types d mid ≡ Some met)
   unfolding after
   after_split zero d n met h = (n, refl, rw zero-add at h)
   after_split (suc i) d n met h =
-    let one = after_suc (i + d) n met (rw suc-add at h) in
-    let rest = after_split i d one.0 met one.2 in
-    (rest.0, rw one.1 rest.1, rest.2)
+      let one = after_suc (i + d) n met (rw suc-add at h) in
+      let rest = after_split i d one.0 met one.2 in
+      (rest.0, rw one.1 rest.1, rest.2)
 
   no_row : (o : Option TypeRow) (other : ℕ) → o ≡ None → referred (sizing_of_row types o) ≡ Some other → ⊥
   no_row None other e r = cc
@@ -122,19 +122,19 @@ module _ (types : TypeTable) where
   unfolding sizing
   refers_from_row zero other r = cc
   refers_from_row (suc place) other r = elim (slice_get_cases types.rows place).1 [
-      inl there ↦ (omega arith, omega (arith, there.1))
+    | inl there ↦ (omega arith, omega (arith, there.1))
     | inr past ↦ absurd (no_row (slice_get types.rows place) other past.1 r)
-    ]
+  ]
 
   -- one reference more than there are types: each place before has a type with a row
   after_in_rows : (n met i : ℕ) → after types (suc (length types.rows)) n ≡ Some met → i ≤ length types.rows → (mid : ℕ) × (after types i n ≡ Some mid) × (0 < mid) × (mid ≤ length types.rows)
   after_in_rows n met i h le =
-    let d = length types.rows - i in
-    let split : suc (length types.rows) ≡ i + suc d = omega arith in
-    let parts = after_split i (suc d) n met (subst (λ k. after types k n ≡ Some met) split h) in
-    let next = after_suc d parts.0 met parts.2 in
-    let row = refers_from_row parts.0 next.0 next.1 in
-    (parts.0, parts.1, row.0, row.1)
+      let d = length types.rows - i in
+      let split : suc (length types.rows) ≡ i + suc d = omega arith in
+      let parts = after_split i (suc d) n met (subst (λ k. after types k n ≡ Some met) split h) in
+      let next = after_suc d parts.0 met parts.2 in
+      let row = refers_from_row parts.0 next.0 next.1 in
+      (parts.0, parts.1, row.0, row.1)
 
   place_after : ℕ → ℕ → ℕ
   place_after n i = unwrap_or (after types i n) 0 - 1
@@ -146,31 +146,31 @@ module _ (types : TypeTable) where
   -- a type that is met again leads back to itself
   endless_from_twice : (n i d mid : ℕ) → after types i n ≡ Some mid → after types (i + suc d) n ≡ Some mid → IsEndless types n
   endless_from_twice n i d mid once again =
-    let parts = after_split i (suc d) n mid again in
-    let same : parts.0 ≡ mid = cc (parts.1, once) in
-    let next = after_suc d mid mid (subst (λ k. after types (suc d) k ≡ Some mid) same parts.2) in
-    record {
-      met = mid;
-      next = next.0;
-      once = meets_from_after i n mid once;
-      refers = next.1;
-      again = meets_from_after d next.0 mid next.2;
-    }
+      let parts = after_split i (suc d) n mid again in
+      let same : parts.0 ≡ mid = cc (parts.1, once) in
+      let next = after_suc d mid mid (subst (λ k. after types (suc d) k ≡ Some mid) same parts.2) in
+      record {
+        met = mid;
+        next = next.0;
+        once = meets_from_after i n mid once;
+        refers = next.1;
+        again = meets_from_after d next.0 mid next.2;
+      }
 
   endless_from_places : (n i j mid other : ℕ) → i < j → mid ≡ other → after types i n ≡ Some mid → after types j n ≡ Some other → IsEndless types n
   endless_from_places n i j mid other order same once again =
-    let split : j ≡ i + suc (j - i - 1) = omega arith in
-    endless_from_twice n i (j - i - 1) mid once (subst (λ k. after types k n ≡ Some mid) split (again ∙ ap Some (sym same)))
+      let split : j ≡ i + suc (j - i - 1) = omega arith in
+      endless_from_twice n i (j - i - 1) mid once (subst (λ k. after types k n ≡ Some mid) split (again ∙ ap Some (sym same)))
 
   -- two of these places have one type
   pub endless_from_after : (n met : ℕ) → after types (suc (length types.rows)) n ≡ Some met → IsEndless types n
   endless_from_after n met h =
-    let count = length types.rows in
-    let below : (i : ℕ) → i ≤ count → place_after n i < count = λ i le. (let at = after_in_rows n met i h le in rw (place_after-met n i at.0 at.1) (omega (arith, at.2, at.3))) in
-    let twice = pigeonhole count (place_after n) below in
-    let one = after_in_rows n met twice.first h (omega (arith, twice.order, twice.last)) in
-    let two = after_in_rows n met twice.second h (omega (arith, twice.last)) in
-    let at_one = place_after-met n twice.first one.0 one.1 in
-    let at_two = place_after-met n twice.second two.0 two.1 in
-    let same : one.0 ≡ two.0 = omega (arith, one.2, two.2, at_one, at_two, twice.same) in
-    endless_from_places n twice.first twice.second one.0 two.0 twice.order same one.1 two.1
+      let count = length types.rows in
+      let below : (i : ℕ) → i ≤ count → place_after n i < count = λ i le. (let at = after_in_rows n met i h le in rw (place_after-met n i at.0 at.1) (omega (arith, at.2, at.3))) in
+      let twice = pigeonhole count (place_after n) below in
+      let one = after_in_rows n met twice.first h (omega (arith, twice.order, twice.last)) in
+      let two = after_in_rows n met twice.second h (omega (arith, twice.last)) in
+      let at_one = place_after-met n twice.first one.0 one.1 in
+      let at_two = place_after-met n twice.second two.0 two.1 in
+      let same : one.0 ≡ two.0 = omega (arith, one.2, two.2, at_one, at_two, twice.same) in
+      endless_from_places n twice.first twice.second one.0 two.0 twice.order same one.1 two.1

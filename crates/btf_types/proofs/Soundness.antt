@@ -3,11 +3,10 @@ use Rattle.std.proofs.Common.{◌≡◌, ◌≢◌, ℕ, ◌+◌, ◌<◌, ◌�
 use Rattle.std.specs.List.{flat_map, list_all, AllByRecursion}
 use Rattle.std.proofs.lemmas.Bool.{and_parts, ltb-true, leb-true, cases_eq, cases_Bool, ne_eqb, not-false}
 use Rattle.btf_types.specs.declared.bad_btf.BadBtf.{BadBtf}
-use Rattle.btf_types.specs.declared.kind.TheConstants.{ARRAY, STRUCT, UNION, DATASEC, FUNC_PROTO}
 use Rattle.btf_types.specs.declared.types.Part.{Part}
 use Rattle.btf_types.specs.declared.types.TypeRow.{TypeRow}
 use Rattle.btf_types.specs.Breaks.{first_break, first_broken, header_rules, name_rule, place_of, reference_rule, rules_of, walk_rules}
-use Rattle.btf_types.specs.Kind.{has_target, is_one_of, names_entries}
+use Rattle.btf_types.specs.Kind.{ARRAY, STRUCT, UNION, DATASEC, FUNC_PROTO, has_target, is_one_of, names_entries}
 use Rattle.btf_types.specs.TypeBytes.{entries_of, kind_of, member, names_of, parts_of, part_of, references_of, row_of, variable, word_at}
 use Rattle.btf_types.specs.TypeTable.{TypeTable, IsSound, PartFits, RowFits}
 use Rattle.btf_types.specs.Sections.{strings_of, type_section, types_end, types_in}
@@ -24,8 +23,8 @@ kept_all : (rule : List ℕ → Bool × BadBtf) (types : List (List ℕ)) → fi
 kept_all rule [] h = tt
 kept_all rule (head ∷ types) h =
     elim (cases_Bool (rule head).0) [
-      inl broken ↦ (let found : Some (rule head).1 ≡ None = rw broken at h in cc)
-    | inr kept ↦ (kept, kept_all rule types (rw kept at h))
+      | inl broken ↦ (let found : Some (rule head).1 ≡ None = rw broken at h in cc)
+      | inr kept ↦ (kept, kept_all rule types (rw kept at h))
     ]
 
 -- what one type keeps
@@ -53,27 +52,27 @@ module _ (types : TypeTable) (some : 0 < length types.strings) where
   members_fit : (entries : List (List ℕ)) → list_all (λ name. nat_lt name (length types.strings)) (map (λ entry. word_at entry 0) entries) ≡ true → list_all (λ reference. nat_le reference (length types.rows)) (map (λ entry. word_at entry 4) entries) ≡ true → AllByRecursion (PartFits types) (map member entries)
   members_fit [] n r = tt
   members_fit (entry ∷ entries) n r =
-    let names = and_parts _ _ n in
-    let targets = and_parts _ _ r in
-    (record { name = ltb-true _ _ names.0; target = leb-true _ _ targets.0 }, members_fit entries names.1 targets.1)
+      let names = and_parts _ _ n in
+      let targets = and_parts _ _ r in
+      (record { name = ltb-true _ _ names.0; target = leb-true _ _ targets.0 }, members_fit entries names.1 targets.1)
 
   variables_fit : (entries : List (List ℕ)) → list_all (λ reference. nat_le reference (length types.rows)) (map (λ entry. word_at entry 0) entries) ≡ true → AllByRecursion (PartFits types) (map variable entries)
   variables_fit [] r = tt
   variables_fit (entry ∷ entries) r =
-    let targets = and_parts _ _ r in
-    (record { name = some; target = leb-true _ _ targets.0 }, variables_fit entries targets.1)
+      let targets = and_parts _ _ r in
+      (record { name = some; target = leb-true _ _ targets.0 }, variables_fit entries targets.1)
 
   members_of_fit : (head : List ℕ) → Keeps types head → names_entries (kind_of head) ≡ true → references_of head ≡ map (λ entry. word_at entry 4) (entries_of head) → AllByRecursion (PartFits types) (map member (entries_of head))
   unfolding names_of
   members_of_fit head keeps named refers =
-    let names : list_all (λ name. nat_lt name (length types.strings)) (word_at head 0 ∷ map (λ entry. word_at entry 0) (entries_of head)) ≡ true = rw named at keeps.names in
-    members_fit (entries_of head) (and_parts _ _ names).1 (rw refers at keeps.references)
+      let names : list_all (λ name. nat_lt name (length types.strings)) (word_at head 0 ∷ map (λ entry. word_at entry 0) (entries_of head)) ≡ true = rw named at keeps.names in
+      members_fit (entries_of head) (and_parts _ _ names).1 (rw refers at keeps.references)
 
   array_fits : (head : List ℕ) → Keeps types head → kind_of head ≡ ARRAY → AllByRecursion (PartFits types) (parts_of head)
   unfolding parts_of references_of
   array_fits head keeps e =
-    let kept : list_all (λ reference. nat_le reference (length types.rows)) (word_at head 12 ∷ word_at head 16 ∷ []) ≡ true = rw e at keeps.references in
-    rw e (record { name = some; target = leb-true _ _ (and_parts _ _ kept).0 }, tt)
+      let kept : list_all (λ reference. nat_le reference (length types.rows)) (word_at head 12 ∷ word_at head 16 ∷ []) ≡ true = rw e at keeps.references in
+      rw e (record { name = some; target = leb-true _ _ (and_parts _ _ kept).0 }, tt)
 
   struct_fits : (head : List ℕ) → Keeps types head → (kind_of head ≡ STRUCT) ⊎ (kind_of head ≡ UNION) → AllByRecursion (PartFits types) (parts_of head)
   unfolding parts_of references_of names_entries
@@ -83,9 +82,9 @@ module _ (types : TypeTable) (some : 0 < length types.strings) where
   section_fits : (head : List ℕ) → Keeps types head → kind_of head ≡ DATASEC → AllByRecursion (PartFits types) (parts_of head)
   unfolding parts_of references_of
   section_fits head keeps e =
-    let refers : references_of head ≡ map (λ entry. word_at entry 0) (entries_of head) = rw e refl in
-    let fit = variables_fit (entries_of head) (rw refers at keeps.references) in
-    rw e (rw e at fit)
+      let refers : references_of head ≡ map (λ entry. word_at entry 0) (entries_of head) = rw e refl in
+      let fit = variables_fit (entries_of head) (rw refers at keeps.references) in
+      rw e (rw e at fit)
 
   no_parts : (head : List ℕ) → kind_of head ≢ ARRAY → kind_of head ≢ STRUCT → kind_of head ≢ UNION → kind_of head ≢ DATASEC → parts_of head ≡ []
   unfolding parts_of
@@ -94,25 +93,25 @@ module _ (types : TypeTable) (some : 0 < length types.strings) where
   -- the parts of a type that keeps the rules fit
   parts_fit : (head : List ℕ) → Keeps types head → AllByRecursion (PartFits types) (parts_of head)
   parts_fit head keeps =
-    elim (cases_eq (kind_of head) ARRAY) [
-      inl e ↦ array_fits head keeps e
-    | inr a ↦ elim (cases_eq (kind_of head) STRUCT) [
-        inl e ↦ struct_fits head keeps (inl e)
-      | inr s ↦ elim (cases_eq (kind_of head) UNION) [
-          inl e ↦ struct_fits head keeps (inr e)
-        | inr u ↦ elim (cases_eq (kind_of head) DATASEC) [
-            inl e ↦ section_fits head keeps e
-          | inr d ↦ rw (no_parts head a s u d) tt
+      elim (cases_eq (kind_of head) ARRAY) [
+        | inl e ↦ array_fits head keeps e
+        | inr a ↦ elim (cases_eq (kind_of head) STRUCT) [
+          | inl e ↦ struct_fits head keeps (inl e)
+          | inr s ↦ elim (cases_eq (kind_of head) UNION) [
+            | inl e ↦ struct_fits head keeps (inr e)
+            | inr u ↦ elim (cases_eq (kind_of head) DATASEC) [
+              | inl e ↦ section_fits head keeps e
+              | inr d ↦ rw (no_parts head a s u d) tt
+            ]
           ]
         ]
       ]
-    ]
 
   refers_to_target : (head : List ℕ) → kind_of head ≢ FUNC_PROTO → has_target (kind_of head) ≡ true → references_of head ≡ word_at head 8 ∷ []
   unfolding references_of
   refers_to_target head f h =
-    let kind = kind_of head in
-    rw (ne_eqb kind ARRAY (target_not kind ARRAY no_target.0 h), ne_eqb kind STRUCT (target_not kind STRUCT no_target.1 h), ne_eqb kind UNION (target_not kind UNION no_target.2 h), ne_eqb kind DATASEC (target_not kind DATASEC no_target.3 h), ne_eqb kind FUNC_PROTO f, h) refl
+      let kind = kind_of head in
+      rw (ne_eqb kind ARRAY (target_not kind ARRAY no_target.0 h), ne_eqb kind STRUCT (target_not kind STRUCT no_target.1 h), ne_eqb kind UNION (target_not kind UNION no_target.2 h), ne_eqb kind DATASEC (target_not kind DATASEC no_target.3 h), ne_eqb kind FUNC_PROTO f, h) refl
 
   refers_to_parameters : (head : List ℕ) → kind_of head ≡ FUNC_PROTO → references_of head ≡ word_at head 8 ∷ map (λ entry. word_at entry 4) (entries_of head)
   unfolding references_of
@@ -121,10 +120,10 @@ module _ (types : TypeTable) (some : 0 < length types.strings) where
   -- the target of a type that keeps the rules is there
   target_fits : (head : List ℕ) → Keeps types head → IsTrue (has_target (kind_of head)) → word_at head 8 ≤ length types.rows
   target_fits head keeps h =
-    elim (cases_eq (kind_of head) FUNC_PROTO) [
-      inl e ↦ leb-true _ _ (and_parts _ _ (rw (refers_to_parameters head e) at keeps.references)).0
-    | inr f ↦ leb-true _ _ (and_parts _ _ (rw (refers_to_target head f h) at keeps.references)).0
-    ]
+      elim (cases_eq (kind_of head) FUNC_PROTO) [
+        | inl e ↦ leb-true _ _ (and_parts _ _ (rw (refers_to_parameters head e) at keeps.references)).0
+        | inr f ↦ leb-true _ _ (and_parts _ _ (rw (refers_to_target head f h) at keeps.references)).0
+      ]
 
   row_fits : (first : ℕ) (head : List ℕ) → Keeps types head → first + length (parts_of head) ≤ length types.parts → RowFits types (row_of first head)
   unfolding row_of names_of
@@ -142,8 +141,8 @@ module _ (types : TypeTable) (some : 0 < length types.strings) where
   all_rows_fit : (first : ℕ) (heads : List (List ℕ)) → AllByRecursion (Keeps types) heads → first + length (flat_map parts_of heads) ≤ length types.parts → AllByRecursion (RowFits types) (rows_from first heads)
   all_rows_fit first [] keep within = tt
   all_rows_fit first (head ∷ heads) keep within =
-    let both = length-append (parts_of head) (flat_map parts_of heads) in
-    (row_fits first head keep.0 (omega (arith, both, within)), all_rows_fit (first + length (parts_of head)) heads keep.1 (omega (arith, both, within)))
+      let both = length-append (parts_of head) (flat_map parts_of heads) in
+      (row_fits first head keep.0 (omega (arith, both, within)), all_rows_fit (first + length (parts_of head)) heads keep.1 (omega (arith, both, within)))
 
 -- there are as many rows as types
 length-rows_from : (first : ℕ) (heads : List (List ℕ)) → length (rows_from first heads) ≡ length heads

@@ -71,4 +71,5 @@ below_next n (x ∷ xs) =
     rw (one, below_next n xs) refl
 
 pub ruleset for_walk = (types_in_more, types_in_none, type_length_some)
+
 pub ruleset for_passes = (types_in_more, types_in_none, type_length_some)

@@ -1,11 +1,10 @@
 -- The sizes of types, on the graph of their references.
 use Rattle.std.specs.Prelude.{◌≡◌, ℕ, ◌*◌, ◌<◌, ◌^◌, Bool, ◌==◌, List, [], ◌∷◌, slice_get, Option, Some, None, if◌then◌else◌}
-use Rattle.btf_types.specs.declared.kind.TheConstants.{INT, PTR, ARRAY, STRUCT, UNION, ENUM, TYPEDEF, VOLATILE, CONST, RESTRICT, VAR, DATASEC, FLOAT, TYPE_TAG, ENUM64}
 use Rattle.btf_types.specs.declared.types.TypeRow.{TypeRow}
 use Rattle.btf_types.specs.declared.types.Part.{Part}
 use Rattle.btf_types.specs.declared.size.Sizing.{Sizing}
 use Rattle.btf_types.specs.declared.size.Sizing.TheVariants.{Own, OfTarget, OfElements, Absent}
-use Rattle.btf_types.specs.Kind.{is_one_of}
+use Rattle.btf_types.specs.Kind.{INT, PTR, ARRAY, STRUCT, UNION, ENUM, TYPEDEF, VOLATILE, CONST, RESTRICT, VAR, DATASEC, FLOAT, TYPE_TAG, ENUM64, is_one_of}
 use Rattle.btf_types.specs.TypeTable.{TypeTable, type_at}
 
 -- of a kind with a size field, whose size it is

@@ -2,10 +2,9 @@
 -- A type is given by the bytes from its first on, which go on behind its end.
 use Rattle.std.specs.Prelude.{ℕ, suc, zero, ◌≤◌, IsTrue, ◌+◌, ◌-◌, ◌*◌, ◌/◌, ◌%◌, ◌^◌, ◌==◌, List, [], ◌∷◌, drop, length, map, if◌then◌else◌}
 use Rattle.byteorder.specs.Endian.{little_number}
-use Rattle.btf_types.specs.declared.kind.TheConstants.{ARRAY, STRUCT, UNION, FUNC_PROTO, DATASEC}
 use Rattle.btf_types.specs.declared.types.TypeRow.{TypeRow}
 use Rattle.btf_types.specs.declared.types.Part.{Part}
-use Rattle.btf_types.specs.Kind.{is_one_of, is_known, entry_width, tail_width, names_entries, has_target}
+use Rattle.btf_types.specs.Kind.{ARRAY, STRUCT, UNION, FUNC_PROTO, DATASEC, is_one_of, is_known, entry_width, tail_width, names_entries, has_target}
 
 -- the number in the four bytes from a place on
 unfoldable pub word_at : List ℕ → ℕ → ℕ

@@ -1,12 +1,11 @@
 -- What callers know of the types that were read: the value of `Types`.
-use Rattle.std.specs.Prelude.{◌≡◌, ℕ, zero, suc, ◌+◌, ◌<◌, ◌≤◌, IsTrue, Bool, ◌==◌, ◌&&◌, List, length, take, drop, slice_get, position, Option, Some, None}
+use Rattle.std.specs.Prelude.{◌≡◌, ℕ, zero, suc, ◌+◌, ◌<◌, ◌≤◌, IsTrue, Bool, ◌==◌, ◌&&◌, List, length, drop, slice_get, position, Option, Some, None}
 use Rattle.std.specs.List.{before_first, AllByRecursion}
 use Rattle.std.specs.Option.{option_map}
 use Rattle.std.specs.Str.{bytes_eq}
-use Rattle.btf_types.specs.declared.kind.TheConstants.{ARRAY, DATASEC}
 use Rattle.btf_types.specs.declared.types.TypeRow.{TypeRow}
 use Rattle.btf_types.specs.declared.types.Part.{Part}
-use Rattle.btf_types.specs.Kind.{has_target}
+use Rattle.btf_types.specs.Kind.{ARRAY, DATASEC, has_target}
 
 pub record TypeTable : Type 0 where
   pub rows : List TypeRow
@@ -17,9 +16,6 @@ pub record TypeTable : Type 0 where
 abbrev pub type_at : TypeTable → ℕ → Option TypeRow
 type_at types zero = None
 type_at types (suc place) = slice_get types.rows place
-
-abbrev pub parts_of_row : TypeTable → TypeRow → List Part
-parts_of_row types row = take row.count (drop row.first types.parts)
 
 -- the string at a place: the bytes up to a zero byte
 abbrev pub name_at : TypeTable → ℕ → List ℕ

@@ -9,6 +9,7 @@ use crate::type_bytes::word_at;
 use byteorder::{ByteOrder, LittleEndian};
 
 const MAGIC: u16 = 0xeb9f;
+
 const HEADER_LEN: usize = 24;
 
 /// The types and the strings.
@@ -60,7 +61,10 @@ pub(crate) fn sections_of(bytes: &[u8]) -> Result<Sections<'_>, BadBtf>
     let strings_start = header_end + word_at(bytes, 16) as usize;
     let strings_end = strings_start + word_at(bytes, 20) as usize;
     if bytes.len() < strings_end || !are_bounded(&bytes[strings_start..strings_end]) {
-        return Err(BadBtf { offset: 16, rule: 6 });
+        return Err(BadBtf {
+            offset: 16,
+            rule: 6,
+        });
     }
     Ok(Sections {
         types: &bytes[types_start..types_end],

@@ -4,23 +4,41 @@ ghost use Rattle.std.specs.Prelude.{◌≡◌, ◌≤◌};
 ghost use Rattle.btf_types.specs.Kind as kinds;
 
 pub const INT: u8 = 1;
+
 pub const PTR: u8 = 2;
+
 pub const ARRAY: u8 = 3;
+
 pub const STRUCT: u8 = 4;
+
 pub const UNION: u8 = 5;
+
 pub const ENUM: u8 = 6;
+
 pub const FWD: u8 = 7;
+
 pub const TYPEDEF: u8 = 8;
+
 pub const VOLATILE: u8 = 9;
+
 pub const CONST: u8 = 10;
+
 pub const RESTRICT: u8 = 11;
+
 pub const FUNC: u8 = 12;
+
 pub const FUNC_PROTO: u8 = 13;
+
 pub const VAR: u8 = 14;
+
 pub const DATASEC: u8 = 15;
+
 pub const FLOAT: u8 = 16;
+
 pub const DECL_TAG: u8 = 17;
+
 pub const TYPE_TAG: u8 = 18;
+
 pub const ENUM64: u8 = 19;
 
 /// Whether there is a kind of this number.
@@ -72,14 +90,6 @@ pub(crate) fn has_target(kind: u8) -> bool
 {
     matches!(
         kind,
-        PTR | TYPEDEF
-            | VOLATILE
-            | CONST
-            | RESTRICT
-            | FUNC
-            | FUNC_PROTO
-            | VAR
-            | DECL_TAG
-            | TYPE_TAG
+        PTR | TYPEDEF | VOLATILE | CONST | RESTRICT | FUNC | FUNC_PROTO | VAR | DECL_TAG | TYPE_TAG
     )
 }

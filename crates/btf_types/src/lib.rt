@@ -14,3 +14,6 @@ pub use bad_btf::{BadBtf, BtfEnd};
 pub use read::read_btf;
 pub use size::Size;
 pub use types::{Part, TypeRow, Types};
+
+#[cfg(test)]
+mod tests;

@@ -26,11 +26,7 @@ fn checked_sections(bytes: &[u8]) -> Result<Sections<'_>, BadBtf>
 {
     let sections = sections_of(bytes)?;
     let count = count_types(sections.types, sections.types_end)?;
-    if let Some(bad) = name_break(
-        sections.types,
-        sections.types_end,
-        sections.strings.len(),
-    ) {
+    if let Some(bad) = name_break(sections.types, sections.types_end, sections.strings.len()) {
         return Err(bad);
     }
     if let Some(bad) = reference_break(sections.types, sections.types_end, count) {

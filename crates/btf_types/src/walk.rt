@@ -45,7 +45,7 @@ pub(crate) fn count_types(section: &[u8], end: usize) -> Result<u32, BadBtf>
     ensures count { IfOk result (λ count. count ≡ length (types_in section.now)) }
     ensures whole { OnOk result (AllByRecursion IsWhole (types_in section.now)) }
     ensures rules { MatchResult result (λ _. first_broken (flat_map (λ head. walk_rules (place_of end head) head) (types_in section.now)) ≡ None)
-                                       (λ bad. first_broken (flat_map (λ head. walk_rules (place_of end head) head) (types_in section.now)) ≡ Some bad) }
+        (λ bad. first_broken (flat_map (λ head. walk_rules (place_of end head) head) (types_in section.now)) ≡ Some bad) }
 {
     let mut rest = section;
     let mut count = 0;

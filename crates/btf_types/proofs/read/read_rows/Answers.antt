@@ -11,8 +11,8 @@ loop-rest-preserved c =
     record {
       whole = rw c.bytes_behind-rest.ensures.value ((whole_more rest some c.loop-rest.invariant.whole).1);
       rows =
-        rw (c.in_ok-push.ensures.ok, c.row_of.ensures, c.in_ok-push_parts.ensures, c.bytes_behind-rest.ensures.value, c.len-first.ensures, length-append c.loop-rest.parts (parts_of rest))
-        (rows_more c.loop-rest.rows (length c.loop-rest.parts) rest some ∙ c.loop-rest.invariant.rows);
+          rw (c.in_ok-push.ensures.ok, c.row_of.ensures, c.in_ok-push_parts.ensures, c.bytes_behind-rest.ensures.value, c.len-first.ensures, length-append c.loop-rest.parts (parts_of rest))
+          (rows_more c.loop-rest.rows (length c.loop-rest.parts) rest some ∙ c.loop-rest.invariant.rows);
       parts =
-        rw (c.in_ok-push_parts.ensures, c.bytes_behind-rest.ensures.value) (parts_more c.loop-rest.parts rest some ∙ c.loop-rest.invariant.parts);
+          rw (c.in_ok-push_parts.ensures, c.bytes_behind-rest.ensures.value) (parts_more c.loop-rest.parts rest some ∙ c.loop-rest.invariant.parts);
     }

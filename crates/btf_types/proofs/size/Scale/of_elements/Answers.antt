@@ -14,6 +14,7 @@ returns-clause-scales c size total small =
     let scale = c.args.self in
     let count = c.args.count in
     let some : 0 < count = omega (arith, c.if-count-eq0.false) in
-    let same : count * size ≤ scale.largest → c.saturating_mul.result * size ≡ scale.factor * (count * size) = λ le. rw c.saturating_mul.ensures (scaled_product scale.factor scale.largest count size some c.requires.product le) in
-    (λ h. (let le = within scale.largest count size some h.0 in (omega (arith, le, c.requires.largest), (le, h.1 ∙ same le))),
-     λ h. (within_back scale.largest count size some h.1.0, h.1.1 ∙ sym (same h.1.0)))
+    let same : count * size ≤ scale.largest → c.saturating_mul.result * size ≡ scale.factor * (count * size) = λ le. rw c.saturating_mul.ensures (scaled_product scale.factor scale.largest count size some c.requires.product le) in (
+      λ h. (let le = within scale.largest count size some h.0 in (omega (arith, le, c.requires.largest), (le, h.1 ∙ same le))),
+      λ h. (within_back scale.largest count size some h.1.0, h.1.1 ∙ sym (same h.1.0)),
+    )

@@ -30,7 +30,7 @@ returns-in-Absent-clause-endless c =
 
 pub loop-preserved : goal.loop-preserved
 loop-preserved c = elim c.match-sizing.branch [
-    in-OfTarget w ↦
+  | in-OfTarget w ↦
       rw (w.at-is, w.scale-is) (record {
         bounded = c.loop.invariant.bounded;
         walked = walked_target c.args.self.now c.loop.invariant.walked (sym w.in-OfTarget.ensures.sizing) w.in-OfTarget.ensures.in_range;
@@ -40,7 +40,7 @@ loop-preserved c = elim c.match-sizing.branch [
         bounded = w.of_elements-scale.ensures.bounded;
         walked = walked_elements c.args.self.now c.loop.invariant.walked (sym w.in-OfElements.ensures.sizing) w.in-OfElements.ensures.in_range w.of_elements-scale.ensures.scales;
       })
-  ]
+]
 
 -- after the loop there were more references than types
 walked_all : (c : goal.After-loop) → IsEndless c.args.self.now c.args.number
