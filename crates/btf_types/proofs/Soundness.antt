@@ -1,5 +1,5 @@
 -- Bytes that break no rule hold sound types.
-use Rattle.std.proofs.Common.{◌≡◌, ◌≢◌, ℕ, ◌+◌, ◌<◌, ◌≤◌, ◌⊎◌, Bool, true, false, not, cond, IsTrue, nat_lt, nat_le, List, [], ◌∷◌, ◌++◌, map, length, Option, Some, None, suc, length-append, refl, ap, sym, ◌∙◌, inl, inr, subst, arith}
+use Rattle.std.proofs.Common.{◌≡◌, ◌≢◌, ℕ, ◌+◌, ◌<◌, ◌≤◌, ◌⊎◌, Bool, true, false, not, cond, IsTrue, nat_eq, nat_lt, nat_le, List, [], ◌∷◌, ◌++◌, map, length, Option, Some, None, suc, length-append, refl, ap, sym, ◌∙◌, inl, inr, subst, arith}
 use Rattle.std.specs.List.{flat_map, list_all, AllByRecursion}
 use Rattle.std.proofs.lemmas.Bool.{and_parts, ltb-true, leb-true, cases_eq, cases_Bool, ne_eqb, not-false}
 use Rattle.btf_types.specs.declared.bad_btf.BadBtf.{BadBtf}
@@ -41,11 +41,18 @@ one_part : (head : List ℕ) → kind_of head ≡ ARRAY → length (parts_of hea
 unfolding parts_of
 one_part head e = rw e refl
 
+cond_at_true : {X : Type 0} (b : Bool) (x y : X) → b ≡ true → cond b x y ≡ x
+cond_at_true true x y h = refl
+cond_at_true false x y h = cc
+
+cond_at_false : {X : Type 0} (b : Bool) (x y : X) → b ≡ false → cond b x y ≡ y
+cond_at_false true x y h = cc
+cond_at_false false x y h = refl
+
 target_not : (kind other : ℕ) → has_target other ≡ false → has_target kind ≡ true → kind ≢ other
 target_not kind other without with e = cc
 
 no_target : (has_target ARRAY ≡ false) × (has_target STRUCT ≡ false) × (has_target UNION ≡ false) × (has_target DATASEC ≡ false)
-unfolding has_target
 no_target = (refl, refl, refl, refl)
 
 module _ (types : TypeTable) (some : 0 < length types.strings) where
@@ -111,7 +118,7 @@ module _ (types : TypeTable) (some : 0 < length types.strings) where
   unfolding references_of
   refers_to_target head f h =
       let kind = kind_of head in
-      rw (ne_eqb kind ARRAY (target_not kind ARRAY no_target.0 h), ne_eqb kind STRUCT (target_not kind STRUCT no_target.1 h), ne_eqb kind UNION (target_not kind UNION no_target.2 h), ne_eqb kind DATASEC (target_not kind DATASEC no_target.3 h), ne_eqb kind FUNC_PROTO f, h) refl
+      rw (ne_eqb kind ARRAY (target_not kind ARRAY no_target.0 h), ne_eqb kind STRUCT (target_not kind STRUCT no_target.1 h), ne_eqb kind UNION (target_not kind UNION no_target.2 h), ne_eqb kind DATASEC (target_not kind DATASEC no_target.3 h)) (cond_at_false (nat_eq kind FUNC_PROTO) _ _ (ne_eqb kind FUNC_PROTO f) ∙ cond_at_true (has_target kind) (word_at head 8 ∷ []) [] h)
 
   refers_to_parameters : (head : List ℕ) → kind_of head ≡ FUNC_PROTO → references_of head ≡ word_at head 8 ∷ map (λ entry. word_at entry 4) (entries_of head)
   unfolding references_of
@@ -164,8 +171,8 @@ sound bytes some h =
     let types = types_of bytes in
     let names = λ (head : List ℕ). name_rule (length (strings_of bytes)) (place_of end head) head in
     let references = λ (head : List ℕ). reference_rule (length heads) (place_of end head) head in
-    let last = kept_parts (header_rules bytes ++ flat_map (λ head. walk_rules (place_of end head) head) heads ++ map names heads) (map references heads) h in
-    let third = kept_parts (header_rules bytes ++ flat_map (λ head. walk_rules (place_of end head) head) heads) (map names heads) last.0 in
+    let last = kept_parts (header_rules bytes ++ walk_rules end heads ++ map names heads) (map references heads) h in
+    let third = kept_parts (header_rules bytes ++ walk_rules end heads) (map names heads) last.0 in
     let keep = keep_both types end heads (kept_all names heads third.1) (rw length-rows_from (kept_all references heads last.1)) in
     record {
       rows = all_rows_fit types some 0 heads keep (omega arith);

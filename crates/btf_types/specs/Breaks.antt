@@ -31,35 +31,45 @@ header_rules bytes =
     ∷ (nat_lt (length bytes) (strings_end bytes) || not (are_bounded (strings_of bytes)), bad 6 16)
     ∷ []
 
+-- a type's place, by the bytes from its first to the end of the types
+abbrev pub place_of : ℕ → List ℕ → ℕ
+place_of end head = end - length head
+
 -- a type that the walk meets: its first twelve bytes, its kind, its other bytes
-unfoldable pub walk_rules : ℕ → List ℕ → List (Bool × BadBtf)
-walk_rules place head =
+unfoldable pub type_rules : ℕ → List ℕ → List (Bool × BadBtf)
+type_rules place head =
     (nat_lt (length head) 12, bad 7 place)
     ∷ (not (is_known (kind_of head)), bad 8 place)
     ∷ (nat_lt (length head) (type_length head), bad 9 place)
     ∷ []
 
--- a name is outside the strings
+-- the walk over types that end at a place
+abbrev pub walk_rules : ℕ → List (List ℕ) → List (Bool × BadBtf)
+walk_rules end types = flat_map (λ head. type_rules (place_of end head) head) types
+
+-- a name is outside so many bytes of strings
 abbrev pub name_rule : ℕ → ℕ → List ℕ → Bool × BadBtf
 name_rule strings place head = (not (list_all (λ name. nat_lt name strings) (names_of head)), bad 10 place)
 
+abbrev pub name_rules : ℕ → ℕ → List (List ℕ) → List (Bool × BadBtf)
+name_rules strings end types = map (λ head. name_rule strings (place_of end head) head) types
+
 -- a reference is above the number of types
 abbrev pub reference_rule : ℕ → ℕ → List ℕ → Bool × BadBtf
-reference_rule types place head = (not (list_all (λ reference. nat_le reference types) (references_of head)), bad 11 place)
+reference_rule count place head = (not (list_all (λ reference. nat_le reference count) (references_of head)), bad 11 place)
 
--- a type's place, by the bytes from its first to the end of the types
-abbrev pub place_of : ℕ → List ℕ → ℕ
-place_of end head = end - length head
+abbrev pub reference_rules : ℕ → ℕ → List (List ℕ) → List (Bool × BadBtf)
+reference_rules count end types = map (λ head. reference_rule count (place_of end head) head) types
 
--- all rules at all places, by rule and then by place, but that the walk keeps to its first bad type
+-- all rules at all places, by rule and then by place, but for the walk, which goes by place
 unfoldable pub rules_of : List ℕ → List (Bool × BadBtf)
 rules_of bytes =
     let end = types_end bytes in
     let types = types_in (type_section bytes) in
     header_rules bytes
-    ++ flat_map (λ head. walk_rules (place_of end head) head) types
-    ++ map (λ head. name_rule (length (strings_of bytes)) (place_of end head) head) types
-    ++ map (λ head. reference_rule (length types) (place_of end head) head) types
+    ++ walk_rules end types
+    ++ name_rules (length (strings_of bytes)) end types
+    ++ reference_rules (length types) end types
 
 -- the first rule that the bytes break, with its first place
 unfoldable pub first_break : List ℕ → Option BadBtf

@@ -84,6 +84,6 @@ unfoldable pub names_entries : ℕ → Bool
 names_entries kind = is_one_of (STRUCT ∷ UNION ∷ ENUM ∷ FUNC_PROTO ∷ ENUM64 ∷ []) kind
 
 -- the third number of these is another type's
-unfoldable pub has_target : ℕ → Bool
+abbrev pub has_target : ℕ → Bool
 has_target kind =
     is_one_of (PTR ∷ TYPEDEF ∷ VOLATILE ∷ CONST ∷ RESTRICT ∷ FUNC ∷ FUNC_PROTO ∷ VAR ∷ DECL_TAG ∷ TYPE_TAG ∷ []) kind

@@ -84,7 +84,6 @@ pub(crate) fn names_entries(kind: u8) -> bool
 }
 
 /// Whether the type has a target, in place of a size.
-#[tactic(auto, unfolding(crate::specs::Kind::has_target))]
 pub(crate) fn has_target(kind: u8) -> bool
     ensures { result ≡ kinds.has_target kind }
 {

@@ -70,7 +70,7 @@ impl Scale {
 
 impl Types {
     /// By what a type has its size.
-    #[tactic(auto, unfolding(crate::specs::Size::sizing, crate::specs::Kind::has_target))]
+    #[tactic(auto, unfolding(crate::specs::Size::sizing))]
     fn sizing(&self, number: u32) -> Sizing
         requires { number ≤ length self.now.rows }
         ensures sizing { result ≡ sizing self.now number }

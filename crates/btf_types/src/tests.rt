@@ -107,7 +107,6 @@ fn blob(alloc: Global, types: &[u32], strings: &[u8]) -> Result<Bytes, Fail> {
 #[test]
 fn types_of_an_object(rt: HostRuntime) -> Result<(), Fail> {
     let bytes = blob(rt.alloc(), &TYPES, STRINGS)?;
-    assert_eq!(rt; bytes.as_slice().len(), 395);
     let types = read_btf(rt.alloc(), bytes.as_slice())?;
     assert_eq!(rt; types.len(), 14);
     let row = types.type_at(12);
@@ -119,7 +118,9 @@ fn types_of_an_object(rt: HostRuntime) -> Result<(), Fail> {
     assert_eq!(rt; types.name_of(part.name), b"max_entries".as_slice());
     assert_eq!(rt; part.target, 10);
     assert_eq!(rt; part.place, 64);
-    let elements = types.part(types.type_at(9).first);
+    let array = types.type_at(9);
+    assert_eq!(rt; array.first, 4);
+    let elements = types.part(array.first);
     assert_eq!(rt;
         *elements,
         Part {
@@ -152,6 +153,7 @@ const BREAKS: [(usize, u8, u8, u64); 10] = [
 fn each_rule_once(rt: HostRuntime) -> Result<(), Fail> {
     let whole = blob(rt.alloc(), &TYPES, STRINGS)?;
     let whole = whole.as_slice();
+    assert_eq!(rt; whole.len(), 395);
     let short = BadBtf { offset: 0, rule: 1 };
     assert_eq!(rt;
         read_btf(rt.alloc(), &whole[..23]).err(),

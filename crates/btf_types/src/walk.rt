@@ -1,8 +1,8 @@
 //! The types of a section, one behind the other, and the rules B7 to B11 on them.
 
-ghost use Rattle.std.specs.Prelude.{◌≡◌, ◌+◌, ◌<◌, ◌≤◌, ◌^◌, length, map, None, Some, MatchResult, IfNone, IfOk, OnOk};
-ghost use Rattle.std.specs.List.{flat_map, AllByRecursion};
-ghost use Rattle.btf_types.specs.Breaks.{first_broken, name_rule, place_of, reference_rule, walk_rules};
+ghost use Rattle.std.specs.Prelude.{◌≡◌, ◌+◌, ◌<◌, ◌≤◌, ◌^◌, length, None, Some, MatchResult, IfNone, IfOk, OnOk};
+ghost use Rattle.std.specs.List.{AllByRecursion};
+ghost use Rattle.btf_types.specs.Breaks.{first_broken, name_rules, reference_rules, type_rules, walk_rules};
 ghost use Rattle.btf_types.specs.Sections.{types_in};
 ghost use Rattle.btf_types.specs.TypeBytes.{IsWhole};
 
@@ -11,9 +11,9 @@ use crate::kind;
 use crate::type_bytes::{bytes_behind, kind_of, names_below, references_below, type_len};
 
 /// The first of the rules B7 to B9 that a type breaks.
-#[tactic(auto, unfolding(crate::specs::Breaks::walk_rules))]
-fn walk_break(head: &[u8], place: u64) -> Option<BadBtf>
-    ensures rules { result ≡ first_broken (walk_rules place head.now) }
+#[tactic(auto, unfolding(crate::specs::Breaks::type_rules))]
+fn type_break(head: &[u8], place: u64) -> Option<BadBtf>
+    ensures rules { result ≡ first_broken (type_rules place head.now) }
     ensures whole { IfNone result (IsWhole head.now) }
 {
     if head.len() < 12 {
@@ -44,13 +44,12 @@ pub(crate) fn count_types(section: &[u8], end: usize) -> Result<u32, BadBtf>
     requires inside { length section.now ≤ end }
     ensures count { IfOk result (λ count. count ≡ length (types_in section.now)) }
     ensures whole { OnOk result (AllByRecursion IsWhole (types_in section.now)) }
-    ensures rules { MatchResult result (λ _. first_broken (flat_map (λ head. walk_rules (place_of end head) head) (types_in section.now)) ≡ None)
-        (λ bad. first_broken (flat_map (λ head. walk_rules (place_of end head) head) (types_in section.now)) ≡ Some bad) }
+    ensures rules { MatchResult result (λ _. first_broken (walk_rules end (types_in section.now)) ≡ None) (λ bad. first_broken (walk_rules end (types_in section.now)) ≡ Some bad) }
 {
     let mut rest = section;
     let mut count = 0;
     while !rest.is_empty() {
-        if let Some(bad) = walk_break(rest, (end - rest.len()) as u64) {
+        if let Some(bad) = type_break(rest, (end - rest.len()) as u64) {
             return Err(bad);
         }
         rest = bytes_behind(rest);
@@ -64,7 +63,7 @@ pub(crate) fn count_types(section: &[u8], end: usize) -> Result<u32, BadBtf>
 pub(crate) fn name_break(section: &[u8], end: usize, strings: usize) -> Option<BadBtf>
     requires whole { AllByRecursion IsWhole (types_in section.now) }
     requires inside { length section.now ≤ end }
-    ensures { result ≡ first_broken (map (λ head. name_rule strings (place_of end head) head) (types_in section.now)) }
+    ensures { result ≡ first_broken (name_rules strings end (types_in section.now)) }
 {
     let mut rest = section;
     while !rest.is_empty() {
@@ -84,7 +83,7 @@ pub(crate) fn name_break(section: &[u8], end: usize, strings: usize) -> Option<B
 pub(crate) fn reference_break(section: &[u8], end: usize, types: u32) -> Option<BadBtf>
     requires whole { AllByRecursion IsWhole (types_in section.now) }
     requires inside { length section.now ≤ end }
-    ensures { result ≡ first_broken (map (λ head. reference_rule types (place_of end head) head) (types_in section.now)) }
+    ensures { result ≡ first_broken (reference_rules types end (types_in section.now)) }
 {
     let mut rest = section;
     while !rest.is_empty() {

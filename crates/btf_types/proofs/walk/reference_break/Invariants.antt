@@ -1,6 +1,6 @@
-use Rattle.std.proofs.Common.{◌≡◌, ◌≤◌, ℕ, List, length, map}
+use Rattle.std.proofs.Common.{◌≡◌, ◌≤◌, ℕ, List, length}
 use Rattle.std.specs.List.{AllByRecursion}
-use Rattle.btf_types.specs.Breaks.{first_broken, reference_rule, place_of}
+use Rattle.btf_types.specs.Breaks.{first_broken, reference_rules}
 use Rattle.btf_types.specs.Sections.{types_in}
 use Rattle.btf_types.specs.TypeBytes.{IsWhole}
 use Rattle.btf_types.proofs.walk.reference_break.Given as goal
@@ -8,7 +8,7 @@ use Rattle.btf_types.proofs.walk.reference_break.Given as goal
 -- the types so far keep the rule, so those that are left decide
 abbrev pub invariant-loop-rest : goal.invariant-loop-rest
 invariant-loop-rest l =
-    let rules = λ (bytes : List ℕ). first_broken (map (λ head. reference_rule l.types (place_of l.end head) head) (types_in bytes)) in
+    let rules = λ (bytes : List ℕ). first_broken (reference_rules l.types l.end (types_in bytes)) in
     record {
       inside : length l.rest ≤ l.end;
       whole : AllByRecursion IsWhole (types_in l.rest);
