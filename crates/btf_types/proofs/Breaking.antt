@@ -1,6 +1,5 @@
 -- The rules one after the other: the first that is broken, by the list in which it stands.
-use Rattle.std.proofs.Common.{◌≡◌, ℕ, ◌++◌, Bool, List, map, length, Option, Some, None, refl, ◌∙◌}
-use Rattle.std.specs.List.{flat_map}
+use Rattle.std.proofs.Common.{◌≡◌, ℕ, ◌++◌, List, length, Some, None, refl, ◌∙◌}
 use Rattle.btf_types.specs.declared.bad_btf.BadBtf.{BadBtf}
 use Rattle.btf_types.specs.Breaks.{first_break, first_broken, header_rules, name_rules, reference_rules, rules_of, walk_rules}
 use Rattle.btf_types.specs.Sections.{strings_of, type_section, types_end, types_in}

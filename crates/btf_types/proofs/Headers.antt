@@ -1,5 +1,5 @@
 -- What the header's rules say.
-use Rattle.std.proofs.Common.{◌≡◌, ℕ, ◌<◌, true, List, length, arith}
+use Rattle.std.proofs.Common.{◌≡◌, ℕ, ◌<◌, true, List, length}
 use Rattle.std.proofs.lemmas.Bool.{and_parts, ltb-true}
 use Rattle.btf_types.specs.Breaks.{are_bounded}
 

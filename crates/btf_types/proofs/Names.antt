@@ -1,15 +1,15 @@
 -- Names, and the first place at which a test passes.
-use Rattle.std.proofs.Common.{◌≡◌, ℕ, ◌<◌, ◌≤◌, Bool, true, false, List, length, take, get_or, Option, Some, None, refl, inl, inr, ◌+◌, add-one, slice_get, ap, sym, ◌∙◌, cond, arith, position, ltb}
+use Rattle.std.proofs.Common.{◌≡◌, ℕ, ◌<◌, Bool, true, false, List, length, take, get_or, Some, None, refl, inl, inr, ◌+◌, add-one, slice_get, ap, sym, arith, position}
 use Rattle.std.proofs.lemmas.Option.{get_or_from_slice_get, slice_get_within}
 use Rattle.std.proofs.lemmas.List.{get_or_default}
 use Rattle.std.proofs.lemmas.Bool.{cases_eq}
 use Rattle.btf_types.specs.declared.types.TypeRow.{TypeRow}
 use Rattle.btf_types.specs.TypeTable.{TypeTable, type_at, is_section_named, section_vars}
-use Rattle.std.specs.List.{before_first, position_or_len}
+use Rattle.std.specs.List.{before_first}
 use Rattle.std.proofs.lemmas.List.{take_all}
 use Rattle.std.proofs.lemmas.List.Sums.{position_or_len_is}
 use Rattle.std.proofs.lemmas.Option.{cond_some}
-use Rattle.std.proofs.lemmas.Bool.{le-ltb, lt-ltb, ltb-false, cases_Bool}
+use Rattle.std.proofs.lemmas.Bool.{le-ltb, lt-ltb, ltb-false}
 
 -- what stands in front of the first that passes
 pub before_first-Some : {X : Type 0} (p : X → Bool) (xs : List X) (i : ℕ) → position p xs ≡ Some i → take i xs ≡ before_first p xs

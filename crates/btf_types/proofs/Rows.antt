@@ -1,5 +1,5 @@
 -- The rows and parts of types, one type after the other.
-use Rattle.std.proofs.Common.{◌≡◌, ℕ, ◌+◌, ◌<◌, List, [], ◌∷◌, ◌++◌, drop, length, refl, ap, append_assoc}
+use Rattle.std.proofs.Common.{◌≡◌, ℕ, ◌+◌, ◌<◌, List, [], ◌∷◌, ◌++◌, drop, length, refl, append_assoc}
 use Rattle.std.specs.List.{flat_map}
 use Rattle.btf_types.specs.declared.types.TypeRow.{TypeRow}
 use Rattle.btf_types.specs.declared.types.Part.{Part}

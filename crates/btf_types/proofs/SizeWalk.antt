@@ -1,5 +1,5 @@
 -- The walk that finds a size: so many references lead from a type to another.
-use Rattle.std.proofs.Common.{◌≡◌, ℕ, suc, ◌+◌, ◌-◌, ◌*◌, ◌<◌, ◌≤◌, ◌^◌, ◌↔◌, length, Option, Some, None, option_and_then, refl, ap, sym, ◌∙◌, subst, arith, zero-add, add-zero}
+use Rattle.std.proofs.Common.{◌≡◌, ℕ, suc, ◌+◌, ◌-◌, ◌*◌, ◌<◌, ◌≤◌, ◌^◌, ◌↔◌, length, Some, None, refl, ap, ◌∙◌, subst, arith, zero-add}
 use Rattle.btf_types.specs.declared.size.Scale.{Scale}
 use Rattle.btf_types.specs.declared.size.Sizing.TheVariants.{Own, OfTarget, OfElements, Absent}
 use Rattle.btf_types.specs.TypeTable.{TypeTable}

@@ -1,5 +1,5 @@
 -- Sizes, and chains of references.
-use Rattle.std.proofs.Common.{◌≡◌, ◌≢◌, ℕ, zero, suc, ◌+◌, ◌-◌, ◌*◌, ◌<◌, ◌≤◌, ◌^◌, List, length, Option, Some, None, option_and_then, refl, ap, sym, ◌∙◌, subst, arith, zero-add, suc-add, unwrap_or, slice_get, inl, inr}
+use Rattle.std.proofs.Common.{◌≡◌, ℕ, zero, suc, ◌+◌, ◌-◌, ◌*◌, ◌<◌, ◌≤◌, ◌^◌, length, Option, Some, None, option_and_then, refl, ap, sym, ◌∙◌, subst, arith, zero-add, suc-add, unwrap_or, slice_get, inl, inr}
 use Rattle.std.proofs.lemmas.Option.{slice_get_cases}
 use Rattle.btf_types.proofs.Pigeonhole.{pigeonhole}
 use Rattle.btf_types.specs.declared.size.Sizing.TheVariants.{Own, OfTarget, OfElements, Absent}

@@ -1,13 +1,13 @@
 -- Bytes that break no rule hold sound types.
-use Rattle.std.proofs.Common.{◌≡◌, ◌≢◌, ℕ, ◌+◌, ◌<◌, ◌≤◌, ◌⊎◌, Bool, true, false, not, cond, IsTrue, nat_eq, nat_lt, nat_le, List, [], ◌∷◌, ◌++◌, map, length, Option, Some, None, suc, length-append, refl, ap, sym, ◌∙◌, inl, inr, subst, arith}
+use Rattle.std.proofs.Common.{◌≡◌, ◌≢◌, ℕ, ◌+◌, ◌<◌, ◌≤◌, ◌⊎◌, Bool, true, false, cond, IsTrue, nat_eq, nat_lt, nat_le, List, [], ◌∷◌, ◌++◌, map, length, Some, None, suc, length-append, refl, ap, ◌∙◌, inl, inr, arith}
 use Rattle.std.specs.List.{flat_map, list_all, AllByRecursion}
 use Rattle.std.proofs.lemmas.Bool.{and_parts, ltb-true, leb-true, cases_eq, cases_Bool, ne_eqb, not-false}
 use Rattle.btf_types.specs.declared.bad_btf.BadBtf.{BadBtf}
 use Rattle.btf_types.specs.declared.types.Part.{Part}
 use Rattle.btf_types.specs.declared.types.TypeRow.{TypeRow}
 use Rattle.btf_types.specs.Breaks.{first_break, first_broken, header_rules, name_rule, place_of, reference_rule, rules_of, walk_rules}
-use Rattle.btf_types.specs.Kind.{ARRAY, STRUCT, UNION, DATASEC, FUNC_PROTO, has_target, is_one_of, names_entries}
-use Rattle.btf_types.specs.TypeBytes.{entries_of, kind_of, member, names_of, parts_of, part_of, references_of, row_of, variable, word_at}
+use Rattle.btf_types.specs.Kind.{ARRAY, STRUCT, UNION, DATASEC, FUNC_PROTO, has_target, names_entries}
+use Rattle.btf_types.specs.TypeBytes.{entries_of, kind_of, member, names_of, parts_of, references_of, row_of, variable, word_at}
 use Rattle.btf_types.specs.TypeTable.{TypeTable, IsSound, PartFits, RowFits}
 use Rattle.btf_types.specs.Sections.{strings_of, type_section, types_end, types_in}
 use Rattle.btf_types.specs.Reading.{rows_from, types_of}

@@ -1,5 +1,5 @@
 -- The walk over the types of a section, type by type.
-use Rattle.std.proofs.Common.{◌≡◌, ℕ, zero, suc, ◌+◌, ◌-◌, ◌<◌, ◌≤◌, Bool, nat_lt, nat_le, true, false, cond, List, [], ◌∷◌, ◌++◌, map, drop, length, Option, Some, None, refl, ap, sym, ◌∙◌, arith}
+use Rattle.std.proofs.Common.{◌≡◌, ℕ, zero, suc, ◌+◌, ◌-◌, ◌<◌, ◌≤◌, Bool, nat_lt, nat_le, true, false, List, [], ◌∷◌, ◌++◌, map, drop, length, Some, None, refl, ap, sym, ◌∙◌, arith}
 use Rattle.std.specs.List.{flat_map, list_all, AllByRecursion}
 use Rattle.btf_types.specs.declared.bad_btf.BadBtf.{BadBtf}
 use Rattle.btf_types.specs.TypeBytes.{IsWhole, type_length}
@@ -70,6 +70,4 @@ below_next n (x ∷ xs) =
     let one : nat_lt x (n + 1) ≡ nat_le x n = grind arith in
     rw (one, below_next n xs) refl
 
-pub ruleset for_walk = (types_in_more, types_in_none, type_length_some)
-
-pub ruleset for_passes = (types_in_more, types_in_none, type_length_some)
+pub ruleset in_order = (types_in_more, types_in_none, type_length_some)

@@ -1,5 +1,5 @@
 -- The rules B1 to B11 that bytes keep to be read, each with the place that is named for it.
-use Rattle.std.specs.Prelude.{ℕ, ◌+◌, ◌-◌, ◌%◌, Bool, not, ◌==◌, ◌&&◌, ◌||◌, nat_lt, nat_le, List, [], ◌∷◌, ◌++◌, map, length, slice_index, Option, Some, None, if◌then◌else◌}
+use Rattle.std.specs.Prelude.{◌≡◌, MatchResult, Result, ℕ, ◌-◌, ◌%◌, Bool, not, ◌==◌, ◌&&◌, ◌||◌, nat_lt, nat_le, List, [], ◌∷◌, ◌++◌, map, length, slice_index, Option, Some, None, if◌then◌else◌}
 use Rattle.std.specs.List.{list_all, flat_map}
 use Rattle.byteorder.specs.Endian.{little_number}
 use Rattle.btf_types.specs.declared.bad_btf.BadBtf.{BadBtf}
@@ -14,6 +14,10 @@ bad rule place = record { offset = place; rule = rule }
 abbrev pub first_broken : List (Bool × BadBtf) → Option BadBtf
 first_broken [] = None
 first_broken (rule ∷ rules) = if rule.0 then Some rule.1 else first_broken rules
+
+-- an error is the break that was found, and there is none where there is no break
+abbrev pub RefusesAs : {X : Type 0} → Result X BadBtf → Option BadBtf → Type 0
+RefusesAs result found = MatchResult result (λ _. found ≡ None) (λ bad. found ≡ Some bad)
 
 -- strings aren't empty, and begin and end with a zero byte
 unfoldable pub are_bounded : List ℕ → Bool

@@ -1,5 +1,5 @@
 -- The kinds of types by their numbers: BPF Type Format (Linux kernel documentation, bpf/btf), section 2.2.
-use Rattle.std.specs.Prelude.{ℕ, ◌+◌, Bool, ◌==◌, ◌&&◌, nat_lt, nat_le, List, [], ◌∷◌, if◌then◌else◌}
+use Rattle.std.specs.Prelude.{ℕ, Bool, ◌==◌, ◌&&◌, nat_le, List, [], ◌∷◌, if◌then◌else◌}
 use Rattle.std.specs.List.{list_any}
 
 abbrev pub INT : ℕ

@@ -1,6 +1,6 @@
 -- One type in its bytes: BPF Type Format (Linux kernel documentation, bpf/btf), section 2.2.
 -- A type is given by the bytes from its first on, which go on behind its end.
-use Rattle.std.specs.Prelude.{ℕ, suc, zero, ◌≤◌, IsTrue, ◌+◌, ◌-◌, ◌*◌, ◌/◌, ◌%◌, ◌^◌, ◌==◌, List, [], ◌∷◌, drop, length, map, if◌then◌else◌}
+use Rattle.std.specs.Prelude.{ℕ, suc, zero, ◌≤◌, IsTrue, ◌+◌, ◌*◌, ◌/◌, ◌%◌, ◌^◌, ◌==◌, List, [], ◌∷◌, drop, length, map, if◌then◌else◌}
 use Rattle.byteorder.specs.Endian.{little_number}
 use Rattle.btf_types.specs.declared.types.TypeRow.{TypeRow}
 use Rattle.btf_types.specs.declared.types.Part.{Part}

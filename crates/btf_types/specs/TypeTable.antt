@@ -1,5 +1,5 @@
 -- What callers know of the types that were read: the value of `Types`.
-use Rattle.std.specs.Prelude.{◌≡◌, ℕ, zero, suc, ◌+◌, ◌<◌, ◌≤◌, IsTrue, Bool, ◌==◌, ◌&&◌, List, length, drop, slice_get, position, Option, Some, None}
+use Rattle.std.specs.Prelude.{◌≡◌, ℕ, zero, suc, ◌+◌, ◌<◌, ◌≤◌, IsTrue, Bool, ◌==◌, ◌&&◌, List, length, drop, slice_get, position, Option, None}
 use Rattle.std.specs.List.{before_first, AllByRecursion}
 use Rattle.std.specs.Option.{option_map}
 use Rattle.std.specs.Str.{bytes_eq}

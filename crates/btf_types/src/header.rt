@@ -1,7 +1,7 @@
 //! The header, and the two sections that it names.
 
-ghost use Rattle.std.specs.Prelude.{◌≡◌, ◌<◌, ◌≤◌, ◌^◌, length, None, Some, IfOk, MatchResult};
-ghost use Rattle.btf_types.specs.Breaks.{are_bounded, first_broken, header_rules};
+ghost use Rattle.std.specs.Prelude.{◌≡◌, ◌<◌, ◌≤◌, ◌^◌, length, IfOk};
+ghost use Rattle.btf_types.specs.Breaks.{are_bounded, first_broken, header_rules, RefusesAs};
 ghost use Rattle.btf_types.specs.Sections.{strings_of, type_section, types_end};
 
 use crate::bad_btf::BadBtf;
@@ -38,7 +38,7 @@ pub(crate) fn sections_of(bytes: &[u8]) -> Result<Sections<'_>, BadBtf>
     ensures types_end { IfOk result (λ sections. sections.types_end ≡ types_end bytes.now) }
     ensures strings { IfOk result (λ sections. sections.strings.now ≡ strings_of bytes.now) }
     ensures some { IfOk result (λ sections. 0 < length sections.strings.now) }
-    ensures rules { MatchResult result (λ _. first_broken (header_rules bytes.now) ≡ None) (λ bad. first_broken (header_rules bytes.now) ≡ Some bad) }
+    ensures rules { RefusesAs result (first_broken (header_rules bytes.now)) }
 {
     if bytes.len() < HEADER_LEN {
         return Err(BadBtf { offset: 0, rule: 1 });

@@ -1,9 +1,9 @@
 //! Reading: all rules first, then the types.
 
-ghost use Rattle.std.specs.Prelude.{◌≡◌, ◌<◌, length, None, Some, MatchResult, IfOk, OnOk, Err};
+ghost use Rattle.std.specs.Prelude.{◌≡◌, ◌<◌, length, None, Some, IfOk, OnOk, Err};
 ghost use Rattle.std.specs.List.{flat_map, AllByRecursion};
 ghost use Rattle.btf_types.specs.declared.bad_btf.BadBtf.{BadBtf};
-ghost use Rattle.btf_types.specs.Breaks.{first_break};
+ghost use Rattle.btf_types.specs.Breaks.{first_break, RefusesAs};
 ghost use Rattle.btf_types.specs.Reading.{rows_from, types_of};
 ghost use Rattle.btf_types.specs.Sections.{strings_of, type_section, types_in};
 ghost use Rattle.btf_types.specs.TypeBytes.{parts_of, IsWhole};
@@ -22,7 +22,7 @@ fn checked_sections(bytes: &[u8]) -> Result<Sections<'_>, BadBtf>
     ensures strings { IfOk result (λ sections. sections.strings.now ≡ strings_of bytes.now) }
     ensures some { OnOk result (0 < length (strings_of bytes.now)) }
     ensures whole { OnOk result (AllByRecursion IsWhole (types_in (type_section bytes.now))) }
-    ensures breaks { MatchResult result (λ _. first_break bytes.now ≡ None) (λ bad. first_break bytes.now ≡ Some bad) }
+    ensures breaks { RefusesAs result (first_break bytes.now) }
 {
     let sections = sections_of(bytes)?;
     let count = count_types(sections.types, sections.types_end)?;
@@ -36,7 +36,7 @@ fn checked_sections(bytes: &[u8]) -> Result<Sections<'_>, BadBtf>
 }
 
 /// The rows of a section's types, and their parts.
-#[tactic(auto, using(crate::proofs::TypesIn::for_passes))]
+#[tactic(auto, using(crate::proofs::TypesIn::in_order))]
 fn read_rows(alloc: Global, section: &[u8]) -> Result<(List<TypeRow>, List<Part>), OutOfMemory>
     requires { AllByRecursion IsWhole (types_in section.now) }
     ensures rows { IfOk result (λ read. read.0 ≡ rows_from 0 (types_in section.now)) }

@@ -40,7 +40,8 @@ impl Scale {
     fn of_elements(self, count: u32) -> Scale
         requires { IsBounded self }
         ensures bounded { IsBounded result }
-        ensures scales { (size total : ℕ) → size < 2 ^ 32 → Scales result size total ↔ ((count * size < 2 ^ 32) × Scales self (count * size) total) }
+        ensures scales { (size total : ℕ) → size < 2 ^ 32
+            → Scales result size total ↔ ((count * size < 2 ^ 32) × Scales self (count * size) total) }
     {
         if count == 0 {
             return Scale {

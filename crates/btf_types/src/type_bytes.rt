@@ -61,7 +61,8 @@ pub(crate) fn bytes_behind(head: &[u8]) -> &[u8]
 fn entries_below(head: &[u8], place: usize, limit: u64) -> bool
     requires whole { bytes_of.IsWhole head.now }
     requires inside { place + 4 ≤ entry_width (bytes_of.kind_of head.now) }
-    ensures { result ≡ list_all (λ entry. nat_lt (bytes_of.word_at entry place) limit) (bytes_of.entries_of head.now) }
+    ensures { result
+        ≡ list_all (λ entry. nat_lt (bytes_of.word_at entry place) limit) (bytes_of.entries_of head.now) }
 {
     let width = kind::entry_width(kind_of(head));
     let mut rest = &head[12..];
@@ -143,7 +144,8 @@ fn part_of(kind: u8, entry: &[u8]) -> Part
 fn push_entries(parts: &mut List<Part>, head: &[u8]) -> Result<(), OutOfMemory>
     requires whole { bytes_of.IsWhole head.now }
     requires width { entry_width (bytes_of.kind_of head.now) ≡ 12 }
-    ensures { OnOk result (parts.new ≡ parts.old ++ map (bytes_of.part_of (bytes_of.kind_of head.now)) (bytes_of.entries_of head.now)) }
+    ensures { let part = bytes_of.part_of (bytes_of.kind_of head.now) in
+        OnOk result (parts.new ≡ parts.old ++ map part (bytes_of.entries_of head.now)) }
 {
     let kind = kind_of(head);
     let mut rest = &head[12..];

@@ -26,7 +26,7 @@ pub struct Part {
     pub name: u32,
     /// The number of its type.
     pub target: u32,
-    /// As the format writes it: a member's place in bits, a variable's place in bytes, or how many elements.
+    /// A member's place in bits, a variable's place in bytes, or how many elements there are.
     pub place: u32,
 }
 

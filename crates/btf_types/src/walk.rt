@@ -1,8 +1,8 @@
 //! The types of a section, one behind the other, and the rules B7 to B11 on them.
 
-ghost use Rattle.std.specs.Prelude.{◌≡◌, ◌+◌, ◌<◌, ◌≤◌, ◌^◌, length, None, Some, MatchResult, IfNone, IfOk, OnOk};
+ghost use Rattle.std.specs.Prelude.{◌≡◌, ◌+◌, ◌<◌, ◌≤◌, ◌^◌, length, IfNone, IfOk, OnOk};
 ghost use Rattle.std.specs.List.{AllByRecursion};
-ghost use Rattle.btf_types.specs.Breaks.{first_broken, name_rules, reference_rules, type_rules, walk_rules};
+ghost use Rattle.btf_types.specs.Breaks.{first_broken, name_rules, reference_rules, type_rules, walk_rules, RefusesAs};
 ghost use Rattle.btf_types.specs.Sections.{types_in};
 ghost use Rattle.btf_types.specs.TypeBytes.{IsWhole};
 
@@ -38,13 +38,13 @@ fn type_break(head: &[u8], place: u64) -> Option<BadBtf>
 }
 
 /// How many types there are, or what the first bad one of the walk breaks: B7 to B9.
-#[tactic(auto, using(crate::proofs::TypesIn::for_walk))]
+#[tactic(auto, using(crate::proofs::TypesIn::in_order))]
 pub(crate) fn count_types(section: &[u8], end: usize) -> Result<u32, BadBtf>
     requires few { length section.now < 2 ^ 32 }
     requires inside { length section.now ≤ end }
     ensures count { IfOk result (λ count. count ≡ length (types_in section.now)) }
     ensures whole { OnOk result (AllByRecursion IsWhole (types_in section.now)) }
-    ensures rules { MatchResult result (λ _. first_broken (walk_rules end (types_in section.now)) ≡ None) (λ bad. first_broken (walk_rules end (types_in section.now)) ≡ Some bad) }
+    ensures rules { RefusesAs result (first_broken (walk_rules end (types_in section.now))) }
 {
     let mut rest = section;
     let mut count = 0;
@@ -59,7 +59,7 @@ pub(crate) fn count_types(section: &[u8], end: usize) -> Result<u32, BadBtf>
 }
 
 /// The first type of which a name is outside the strings: B10.
-#[tactic(auto, using(crate::proofs::TypesIn::for_passes))]
+#[tactic(auto, using(crate::proofs::TypesIn::in_order))]
 pub(crate) fn name_break(section: &[u8], end: usize, strings: usize) -> Option<BadBtf>
     requires whole { AllByRecursion IsWhole (types_in section.now) }
     requires inside { length section.now ≤ end }
@@ -79,7 +79,7 @@ pub(crate) fn name_break(section: &[u8], end: usize, strings: usize) -> Option<B
 }
 
 /// The first type that refers to a number above the number of types: B11.
-#[tactic(auto, using(crate::proofs::TypesIn::for_passes))]
+#[tactic(auto, using(crate::proofs::TypesIn::in_order))]
 pub(crate) fn reference_break(section: &[u8], end: usize, types: u32) -> Option<BadBtf>
     requires whole { AllByRecursion IsWhole (types_in section.now) }
     requires inside { length section.now ≤ end }

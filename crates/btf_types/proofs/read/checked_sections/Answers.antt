@@ -1,4 +1,4 @@
-use Rattle.std.proofs.Common.{◌≡◌, Some, None, sym, ◌∙◌}
+use Rattle.std.proofs.Common.{sym, ◌∙◌}
 use Rattle.std.proofs.lemmas.Result.{err_from_is_err_and}
 use Rattle.btf_types.proofs.Breaking.{broken_in_header, broken_in_names, broken_in_walk, left_to_references}
 use Rattle.btf_types.proofs.read.checked_sections.Goals as goal

@@ -1,6 +1,5 @@
 use Rattle.std.proofs.Common.{◌≡◌, ◌<◌, nat_lt, true, ◌∙◌, arith}
 use Rattle.std.proofs.lemmas.List.{take_rest}
-use Rattle.std.proofs.lemmas.Grind.{common_steps}
 use Rattle.btf_types.proofs.Entries.{entries_fit, others_fit, others_decide}
 use Rattle.std.proofs.lemmas.Bool.{lt-ltb}
 use Rattle.btf_types.specs.TypeBytes.{word_at, entry_count}

@@ -1,6 +1,5 @@
-use Rattle.std.proofs.Common.{◌≡◌, ℕ, List, ◌<◌, length, arith, ap, sym, ◌∙◌}
+use Rattle.std.proofs.Common.{ℕ, List, ◌<◌, length, arith, ap, sym, ◌∙◌}
 use Rattle.btf_types.specs.Breaks.{type_rules, place_of}
-use Rattle.btf_types.specs.Sections.{types_in}
 use Rattle.btf_types.proofs.TypesIn.{types_in_more, break_here, keep_more}
 use Rattle.btf_types.proofs.walk.count_types.Goals as goal
 

@@ -1,4 +1,4 @@
-use Rattle.std.proofs.Common.{◌≡◌, ℕ, List, ◌<◌, length, Bool, not, true, false, nat_le, arith, ap, sym, ◌∙◌}
+use Rattle.std.proofs.Common.{◌≡◌, ℕ, List, ◌<◌, length, not, true, false, nat_le, arith, sym, ◌∙◌}
 use Rattle.std.specs.List.{list_all}
 use Rattle.btf_types.specs.Breaks.{reference_rule, place_of}
 use Rattle.btf_types.specs.TypeBytes.{references_of}
