@@ -24,12 +24,13 @@ type_section bytes = slice_range bytes (types_start bytes) (types_end bytes)
 unfoldable pub strings_of : List ℕ → List ℕ
 strings_of bytes = slice_range bytes (strings_start bytes) (strings_end bytes)
 
--- the types in a section behind the bytes of a type that is passed, each as the bytes from its first on:
--- one begins there, and one right behind the bytes of each
+-- the types in bytes of which so many at the front still belong to a type before: one begins behind those,
+-- and one right behind the bytes of each. A type is given by the bytes from its first on.
 abbrev pub types_behind : ℕ → List ℕ → List (List ℕ)
 types_behind passed [] = []
 types_behind (suc passed) (b ∷ bytes) = types_behind passed bytes
 types_behind zero (b ∷ bytes) = (b ∷ bytes) ∷ types_behind (type_length (b ∷ bytes) - 1) bytes
 
+-- all types of a section
 abbrev pub types_in : List ℕ → List (List ℕ)
 types_in section = types_behind 0 section
