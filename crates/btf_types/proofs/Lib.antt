@@ -1,0 +1,11 @@
+pub mod Breaking
+pub mod Entries
+pub mod Headers
+pub mod Names
+pub mod Pigeonhole
+pub mod Rows
+pub mod Scaling
+pub mod SizeWalk
+pub mod Sizes
+pub mod Soundness
+pub mod TypesIn
