@@ -1,15 +1,13 @@
 -- What the top call promises of a run, of a script or of what kept the run from its first line.
-use Rattle.std.specs.Prelude.{◌≡◌, ◌⊎◌, ℕ, ◌==◌, ◌||◌, Bool, true, List, [], ◌∷◌, ◌++◌, length, take, map, Result, Ok, Err, if◌then◌else◌}
+use Rattle.std.specs.Prelude.{◌≡◌, ℕ, ◌==◌, ◌||◌, Bool, true, List, [], ◌∷◌, ◌++◌, length, take, map, Result, Ok, Err, if◌then◌else◌}
 use Rattle.std.specs.Prelude.{String}
 use Rattle.std.specs.String.{string_bytes}
-use Rattle.xio.specs.Prefixes.{AppendsPrefix}
 use Rattle.xio.specs.Told.{Told}
 use Rattle.script_text.specs.declared.script.Script.{Script}
 use Rattle.xdp_tool.specs.Ending.{status_of, line_of, err_text}
 use Rattle.xdp_tool.specs.Legal.{AreLegal}
 use Rattle.xdp_tool.specs.Outcome.{Cut, Whole, phases_of, processors_of, ending_after}
 use Rattle.xdp_tool.specs.Texts.{out_text}
-use Rattle.xdp_tool.specs.Words.{script_name}
 use Rattle.xdp_tool.specs.declared.ending.Ending.{Ending}
 use Rattle.xdp_tool.specs.declared.ending.Ending.TheVariants.{Fault, OutOfMemory}
 

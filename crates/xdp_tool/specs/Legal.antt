@@ -1,7 +1,7 @@
 -- Which counts packets may be carried with: each at least the one before it on its processor and at least its packet's
 -- need, and at most the publications by its phase's end.
 use Rattle.std.specs.Prelude.{ℕ, ◌≤◌, ◌+◌, List, [], ◌∷◌, length, ⊤}
-use Rattle.xdp_tool.specs.Plan.{HandIn, Phase, needs_of}
+use Rattle.xdp_tool.specs.Plan.{Phase, needs_of}
 use Rattle.xdp_tool.specs.Queues.{Queue}
 
 -- the needs and the counts of a processor, from the last count before

@@ -6,7 +6,6 @@ use Rattle.script_text.specs.declared.script.ScriptEnd.{ScriptEnd}
 use Rattle.script_text.specs.declared.script.ScriptEnd.TheVariants as end
 use Rattle.xdp_tool.specs.Plan.{Phase, plan}
 use Rattle.xdp_tool.specs.Queues.{Queue, queues_of}
-use Rattle.xdp_tool.specs.Texts.{out_text}
 use Rattle.xdp_tool.specs.Words.{script_name}
 use Rattle.xdp_tool.specs.declared.ending.Ending.{Ending}
 use Rattle.xdp_tool.specs.declared.ending.Ending.TheVariants.{Done, BadScript, OutOfMemory, Limit}
