@@ -1,7 +1,7 @@
-use crate::run_tool;
+use crate::{Ended, run_tool};
 use std::alloc::{AllocError, Global};
 use std::test::Fail;
-use xio::{MemoryFiles, MemorySink, OutOfMemory};
+use xio::{MemoryFiles, MemorySink};
 
 const WORKED: &str = "interface eth0 1
 xdp-filter load eth0
@@ -48,38 +48,51 @@ fn words_of(alloc: Global, texts: &[&str]) -> Result<Vec<String>, AllocError> {
     Ok(words)
 }
 
-fn files_with(alloc: Global, script: &str) -> Result<MemoryFiles, OutOfMemory> {
+/// What a run left behind.
+#[derive(Drop)]
+struct Finished {
+    ended: Ended,
+    out: MemorySink,
+    err: MemorySink,
+}
+
+impl Finished {
+    fn said(&self, out: &str, err: &str) -> bool {
+        self.out.bytes() == out.as_bytes() && self.err.bytes() == err.as_bytes()
+    }
+}
+
+/// Runs these words, where the file `s` holds the script, and the calls of out with the numbers in `failing` fail.
+fn run(alloc: Global, texts: &[&str], script: &str, failing: &[u32]) -> Result<Finished, Fail> {
+    let words = words_of(alloc, texts)?;
     let mut files = MemoryFiles::new(alloc, 0, &[])?;
     files.add("s", script.as_bytes(), None)?;
-    Ok(files)
+    let mut out = MemorySink::new(alloc, 1000, failing)?;
+    let mut err = MemorySink::new(alloc, 1000, &[])?;
+    let ended = run_tool(alloc, words.as_slice(), &mut files, &mut out, &mut err);
+    Ok(Finished { ended, out, err })
 }
 
 #[test]
 fn runs(rt: HostRuntime) -> Result<(), Fail> {
-    for (texts, script, status, line, out_text, err_text) in RUNS {
-        let words = words_of(rt.alloc(), texts)?;
-        let mut files = files_with(rt.alloc(), script)?;
-        let mut out = MemorySink::new(rt.alloc(), 1000, &[])?;
-        let mut err = MemorySink::new(rt.alloc(), 1000, &[])?;
-        let ended = run_tool(rt.alloc(), words.as_slice(), &mut files, &mut out, &mut err);
-        assert_eq!(rt; ended.status, status);
-        assert_eq!(rt; ended.line, line);
-        assert_eq!(rt; out.bytes(), out_text.as_bytes());
-        assert_eq!(rt; err.bytes(), err_text.as_bytes());
+    for (texts, script, status, line, out, err) in RUNS {
+        let run = run(rt.alloc(), texts, script, &[])?;
+        assert!(rt; run.ended.status == status && run.ended.line == line);
+        assert!(rt; run.said(out, err));
     }
     Ok(())
 }
 
 #[test]
 fn counts_of_the_worked_run(rt: HostRuntime) -> Result<(), Fail> {
-    let words = words_of(rt.alloc(), &["s"])?;
-    let mut files = files_with(rt.alloc(), WORKED)?;
-    let mut out = MemorySink::new(rt.alloc(), 1000, &[])?;
-    let mut err = MemorySink::new(rt.alloc(), 1000, &[])?;
-    let ended = run_tool(rt.alloc(), words.as_slice(), &mut files, &mut out, &mut err);
-    assert_eq!(rt; ended.choices.len(), 1);
-    assert_eq!(rt; ended.choices.at(0).len(), 1);
-    assert_eq!(rt; ended.choices.at(0).at(0).as_slice(), [2, 2].as_slice());
+    let run = run(rt.alloc(), &["s"], WORKED, &[])?;
+    let [phase] = run.ended.choices.as_slice() else {
+        return Err("not one phase")?;
+    };
+    let [counts] = phase.as_slice() else {
+        return Err("not one processor")?;
+    };
+    assert!(rt; counts.as_slice() == [2, 2].as_slice());
     Ok(())
 }
 
@@ -87,14 +100,8 @@ fn counts_of_the_worked_run(rt: HostRuntime) -> Result<(), Fail> {
 #[test]
 fn out_that_fails(rt: HostRuntime) -> Result<(), Fail> {
     for (failing, held) in [(1, ""), (2, WORKED_OUT)] {
-        let words = words_of(rt.alloc(), &["s"])?;
-        let mut files = files_with(rt.alloc(), WORKED)?;
-        let mut out = MemorySink::new(rt.alloc(), 1000, &[failing])?;
-        let mut err = MemorySink::new(rt.alloc(), 1000, &[])?;
-        let ended = run_tool(rt.alloc(), words.as_slice(), &mut files, &mut out, &mut err);
-        assert_eq!(rt; ended.status, 3);
-        assert_eq!(rt; out.bytes(), held.as_bytes());
-        assert_eq!(rt; err.bytes(), b"xdptool: fault\n".as_slice());
+        let run = run(rt.alloc(), &["s"], WORKED, &[failing])?;
+        assert!(rt; run.ended.status == 3 && run.said(held, "xdptool: fault\n"));
     }
     Ok(())
 }
