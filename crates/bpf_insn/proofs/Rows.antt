@@ -4,9 +4,9 @@ use Rattle.std.specs.Prelude.{◌==◌, All, Contains, IfSome}
 use Rattle.std.specs.List.{find}
 use Rattle.bpf_insn.specs.declared.operation.Arithmetic.{Arithmetic}
 use Rattle.bpf_insn.specs.declared.operation.Arithmetic.TheVariants.{Add, Sub, Mul, Div, Or, And, Lsh, Rsh, Mod, Xor, Mov, Arsh}
-use Rattle.bpf_insn.specs.declared.operation.Order.TheVariants.{ToLittle, ToBig, Swap}
-use Rattle.bpf_insn.specs.declared.operation.Comparison.{Comparison}
-use Rattle.bpf_insn.specs.declared.operation.Comparison.TheVariants.{Eq, Gt, Ge, Set, Ne, Sgt, Sge, Lt, Le, Slt, Sle}
+use Rattle.bpf_alu.specs.declared.byte_order.Order.TheVariants.{ToLittle, ToBig, Swap}
+use Rattle.bpf_alu.specs.declared.comparison.Test.{Test}
+use Rattle.bpf_alu.specs.declared.comparison.Test.TheVariants.{Eq, Gt, Ge, Set, Ne, Sgt, Sge, Lt, Le, Slt, Sle}
 use Rattle.bpf_insn.specs.declared.operation.Distance.TheVariants as distance
 use Rattle.bpf_insn.specs.declared.operation.Narrow.TheVariants as narrow
 use Rattle.bpf_insn.specs.declared.operation.Operand.{Operand}
@@ -34,7 +34,7 @@ listed_alu Bits32 op Register = elim op as (λ op. IsListed (Alu Bits32 op Regis
 listed_alu Bits64 op Imm = elim op as (λ op. IsListed (Alu Bits64 op Imm)) [ Add ↦ refl | Sub ↦ refl | Mul ↦ refl | Div ↦ refl | Or ↦ refl | And ↦ refl | Lsh ↦ refl | Rsh ↦ refl | Mod ↦ refl | Xor ↦ refl | Mov ↦ refl | Arsh ↦ refl ]
 listed_alu Bits64 op Register = elim op as (λ op. IsListed (Alu Bits64 op Register)) [ Add ↦ refl | Sub ↦ refl | Mul ↦ refl | Div ↦ refl | Or ↦ refl | And ↦ refl | Lsh ↦ refl | Rsh ↦ refl | Mod ↦ refl | Xor ↦ refl | Mov ↦ refl | Arsh ↦ refl ]
 
-listed_branch : (width : Width) (test : Comparison) (operand : Operand) → IsListed (Branch width test operand)
+listed_branch : (width : Width) (test : Test) (operand : Operand) → IsListed (Branch width test operand)
 listed_branch Bits32 test Imm = elim test as (λ test. IsListed (Branch Bits32 test Imm)) [ Eq ↦ refl | Gt ↦ refl | Ge ↦ refl | Set ↦ refl | Ne ↦ refl | Sgt ↦ refl | Sge ↦ refl | Lt ↦ refl | Le ↦ refl | Slt ↦ refl | Sle ↦ refl ]
 listed_branch Bits32 test Register = elim test as (λ test. IsListed (Branch Bits32 test Register)) [ Eq ↦ refl | Gt ↦ refl | Ge ↦ refl | Set ↦ refl | Ne ↦ refl | Sgt ↦ refl | Sge ↦ refl | Lt ↦ refl | Le ↦ refl | Slt ↦ refl | Sle ↦ refl ]
 listed_branch Bits64 test Imm = elim test as (λ test. IsListed (Branch Bits64 test Imm)) [ Eq ↦ refl | Gt ↦ refl | Ge ↦ refl | Set ↦ refl | Ne ↦ refl | Sgt ↦ refl | Sge ↦ refl | Lt ↦ refl | Le ↦ refl | Slt ↦ refl | Sle ↦ refl ]

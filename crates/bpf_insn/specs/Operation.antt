@@ -6,9 +6,9 @@ use Rattle.bpf_insn.specs.declared.operation.Operand.{Operand}
 use Rattle.bpf_insn.specs.declared.operation.Operand.TheVariants as operand
 use Rattle.bpf_insn.specs.declared.operation.Arithmetic.{Arithmetic}
 use Rattle.bpf_insn.specs.declared.operation.Arithmetic.TheVariants as arithmetic
-use Rattle.bpf_insn.specs.declared.operation.Comparison.{Comparison}
-use Rattle.bpf_insn.specs.declared.operation.Comparison.TheVariants as comparison
-use Rattle.bpf_insn.specs.declared.operation.Order.TheVariants as order
+use Rattle.bpf_alu.specs.declared.comparison.Test.{Test}
+use Rattle.bpf_alu.specs.declared.comparison.Test.TheVariants as test
+use Rattle.bpf_alu.specs.declared.byte_order.Order.TheVariants as order
 use Rattle.bpf_insn.specs.declared.operation.Distance.TheVariants as distance
 use Rattle.bpf_insn.specs.declared.operation.Size.{Size}
 use Rattle.bpf_insn.specs.declared.operation.Size.TheVariants as size
@@ -41,18 +41,18 @@ arithmetic_code arithmetic.Mov = 0xb
 arithmetic_code arithmetic.Arsh = 0xc
 
 -- RFC 9669 §4.3
-abbrev pub comparison_code : Comparison → ℕ
-comparison_code comparison.Eq = 0x1
-comparison_code comparison.Gt = 0x2
-comparison_code comparison.Ge = 0x3
-comparison_code comparison.Set = 0x4
-comparison_code comparison.Ne = 0x5
-comparison_code comparison.Sgt = 0x6
-comparison_code comparison.Sge = 0x7
-comparison_code comparison.Lt = 0xa
-comparison_code comparison.Le = 0xb
-comparison_code comparison.Slt = 0xc
-comparison_code comparison.Sle = 0xd
+abbrev pub test_code : Test → ℕ
+test_code test.Eq = 0x1
+test_code test.Gt = 0x2
+test_code test.Ge = 0x3
+test_code test.Set = 0x4
+test_code test.Ne = 0x5
+test_code test.Sgt = 0x6
+test_code test.Sge = 0x7
+test_code test.Lt = 0xa
+test_code test.Le = 0xb
+test_code test.Slt = 0xc
+test_code test.Sle = 0xd
 
 -- RFC 9669 §5: W, H, B and DW
 abbrev pub size_code : Size → ℕ
@@ -117,7 +117,7 @@ specific_of (End order.ToLittle) = 2 * 0xd
 specific_of (End order.ToBig) = 2 * 0xd + 1
 specific_of (End order.Swap) = 2 * 0xd
 specific_of (Jump distance) = 0
-specific_of (Branch width test operand) = 2 * comparison_code test + source_bit operand
+specific_of (Branch width test operand) = 2 * test_code test + source_bit operand
 specific_of Call = 2 * 0x8
 specific_of Exit = 2 * 0x9
 specific_of (Load size) = 4 * 3 + size_code size

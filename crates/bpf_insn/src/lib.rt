@@ -12,7 +12,5 @@ mod tests;
 pub use decoding::{DecodeEnd, decode};
 pub use encoding::encode;
 pub use insn::{Insn, InsnList};
-pub use operation::{
-    Arithmetic, Atomic, Comparison, Distance, Narrow, Operand, Operation, Order, Size, Width,
-};
+pub use operation::{Arithmetic, Atomic, Distance, Narrow, Operand, Operation, Size, Width};
 pub use table::{Form, ImmRule, OffsetRule, Table, instructions, rows_apart};

@@ -1,5 +1,7 @@
 ghost use Rattle.std.specs.Prelude.{◌≡◌, ◌<◌, ◌↔◌, pos, IfSome, IsTrue, Some};
-ghost use Rattle.bpf_insn.specs.Operation.{source_bit, arithmetic_code, comparison_code, size_code, narrow_code, atomic_code, IsSourceWritten, alu_class, jump_class, opcode_of, IsOpcode};
+ghost use Rattle.bpf_insn.specs.Operation.{source_bit, arithmetic_code, test_code, size_code, narrow_code, atomic_code, IsSourceWritten, alu_class, jump_class, opcode_of, IsOpcode};
+
+use bpf_alu::{Order, Test};
 
 /// How many bits an operation works on.
 #[derive(Clone, Copy, Debug, PartialEq, Eq)]
@@ -31,30 +33,6 @@ pub enum Arithmetic {
     Xor,
     Mov,
     Arsh,
-}
-
-/// The test of a jump (RFC 9669 §4.3).
-#[derive(Clone, Copy, Debug, PartialEq, Eq)]
-pub enum Comparison {
-    Eq,
-    Gt,
-    Ge,
-    Set,
-    Ne,
-    Sgt,
-    Sge,
-    Lt,
-    Le,
-    Slt,
-    Sle,
-}
-
-/// The order that the low bytes of a register are put into, as many bits of them as the immediate says (RFC 9669 §4.2).
-#[derive(Clone, Copy, Debug, PartialEq, Eq)]
-pub enum Order {
-    ToLittle,
-    ToBig,
-    Swap,
 }
 
 /// Where the distance of a jump stands.
@@ -104,7 +82,7 @@ pub enum Operation {
     /// Jumps by the offset where the test of target and operand holds.
     Branch {
         width: Width,
-        test: Comparison,
+        test: Test,
         operand: Operand,
     },
     /// Calls a helper where the source is 0, and a function of the program where it is 1.
@@ -170,26 +148,24 @@ impl Arithmetic {
     }
 }
 
-impl Comparison {
-    /// The test of a code (RFC 9669 §4.3).
-    fn from_code(code: u8) -> Option<Self>
-        ensures found { IfSome result (λ test. comparison_code test ≡ code) }
-        ensures only { (test : Comparison) → comparison_code test ≡ code → result ≡ Some test }
-    {
-        match code {
-            0x1 => Some(Comparison::Eq),
-            0x2 => Some(Comparison::Gt),
-            0x3 => Some(Comparison::Ge),
-            0x4 => Some(Comparison::Set),
-            0x5 => Some(Comparison::Ne),
-            0x6 => Some(Comparison::Sgt),
-            0x7 => Some(Comparison::Sge),
-            0xa => Some(Comparison::Lt),
-            0xb => Some(Comparison::Le),
-            0xc => Some(Comparison::Slt),
-            0xd => Some(Comparison::Sle),
-            _ => None,
-        }
+/// The test of a jump's code (RFC 9669 §4.3).
+fn test_of(code: u8) -> Option<Test>
+    ensures found { IfSome result (λ test. test_code test ≡ code) }
+    ensures only { (test : Test) → test_code test ≡ code → result ≡ Some test }
+{
+    match code {
+        0x1 => Some(Test::Eq),
+        0x2 => Some(Test::Gt),
+        0x3 => Some(Test::Ge),
+        0x4 => Some(Test::Set),
+        0x5 => Some(Test::Ne),
+        0x6 => Some(Test::Sgt),
+        0x7 => Some(Test::Sge),
+        0xa => Some(Test::Lt),
+        0xb => Some(Test::Le),
+        0xc => Some(Test::Slt),
+        0xd => Some(Test::Sle),
+        _ => None,
     }
 }
 
@@ -409,7 +385,7 @@ fn jump(width: Width, specific: u8) -> Option<Operation>
         (18, Width::Bits64) => Some(Operation::Exit),
         _ => Some(Operation::Branch {
             width,
-            test: Comparison::from_code(specific / 2)?,
+            test: test_of(specific / 2)?,
             operand: Operand::from_bit(specific % 2),
         }),
     }
