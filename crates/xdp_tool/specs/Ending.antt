@@ -1,5 +1,5 @@
 -- How a run ends: its status, the line that it names, and what it says on err.
-use Rattle.std.specs.Prelude.{ℕ, List, [], ◌++◌, codes}
+use Rattle.std.specs.Prelude.{ℕ, List, [], ◌++◌, codes, if◌then◌else◌}
 use Rattle.std.specs.Fmt.{decimal}
 use Rattle.xdp_tool.specs.declared.ending.Ending.{Ending}
 use Rattle.xdp_tool.specs.declared.ending.Ending.TheVariants.{Done, Usage, BadScript, Fault, OutOfMemory, Limit}
@@ -7,7 +7,7 @@ use Rattle.xdp_tool.specs.declared.ending.LimitName.{LimitName}
 use Rattle.xdp_tool.specs.declared.ending.LimitName.TheVariants.{Script, Lines}
 
 abbrev pub status_of : Ending → ℕ
-status_of Done = 0
+status_of (Done refused) = if refused then 1 else 0
 status_of Usage = 2
 status_of (BadScript line rule) = 2
 status_of Fault = 3
@@ -24,7 +24,7 @@ limit_text Script = codes "xdptool: limit script 16777216\n"
 limit_text Lines = codes "xdptool: limit lines 65536\n"
 
 abbrev pub err_text : Ending → List ℕ
-err_text Done = []
+err_text (Done refused) = []
 err_text Usage = codes "usage: xdptool [--capture FILE] [--trace FILE] [--replay FILE] [--demo SEED] [SCRIPT]\n"
 err_text (BadScript line rule) =
     codes "xdptool: line " ++ (decimal line ++ (codes ": rule S" ++ (decimal rule ++ codes "\n")))

@@ -6,7 +6,8 @@ use Rattle.xio.specs.Told.{Told}
 use Rattle.script_text.specs.declared.script.Script.{Script}
 use Rattle.xdp_tool.specs.Ending.{status_of, line_of, err_text}
 use Rattle.xdp_tool.specs.Legal.{AreLegal}
-use Rattle.xdp_tool.specs.Outcome.{Cut, Whole, phases_of, processors_of, ending_after}
+use Rattle.xdp_tool.specs.Outcome.{Cut, Whole, phases_of, interfaces_of, ending_after}
+use Rattle.xdp_tool.specs.Queues.{queues_of}
 use Rattle.xdp_tool.specs.Texts.{out_text}
 use Rattle.xdp_tool.specs.declared.ending.Ending.{Ending}
 use Rattle.xdp_tool.specs.declared.ending.Ending.TheVariants.{Fault, OutOfMemory}
@@ -16,15 +17,19 @@ words_of words = map string_bytes words
 
 -- a status that is a function of the inputs: that of a run which neither met a fault nor wanted memory
 abbrev pub is_decided : ℕ → Bool
-is_decided status = (status == 0) || (status == 2) || (status == 5)
+is_decided status = (status == 0) || (status == 1) || (status == 2) || (status == 5)
 
 -- the statuses that there are
 abbrev pub is_status : ℕ → Bool
 is_status status = is_decided status || (status == 3) || (status == 4)
 
+-- the statuses of a script that ran to its end
+abbrev pub is_end : ℕ → Bool
+is_end status = (status == 0) || (status == 1)
+
 -- the statuses of a run whose out is whole
 abbrev pub is_whole : ℕ → Bool
-is_whole status = (status == 0) || (status == 2)
+is_whole status = is_end status || (status == 2)
 
 -- the status and the line are those of the script's reading and running
 pub record IsDecided (script : Result Script Ending) (status line : ℕ) : Type 0 where
@@ -33,14 +38,14 @@ pub record IsDecided (script : Result Script Ending) (status line : ℕ) : Type 
 
 -- the text of out for the phases that the choices cover
 abbrev pub out_of : Result Script Ending → Cut → List (List (List ℕ)) → List ℕ
-out_of script cut choices = out_text (processors_of script) (phases_of script cut) choices
+out_of script cut choices = out_text (interfaces_of script) (phases_of script cut) choices
 
 -- The choices are legal for the phases that they cover, of the plan with this cut, and out grew by the front of its text.
 -- With a decided status nothing was cut and all phases are covered.
 pub record IsExplained (script : Result Script Ending) (status : ℕ) (choices : List (List (List ℕ))) (cut : Cut) : Type 0 where
   pub whole : is_decided status ≡ true → cut ≡ Whole
   pub covered : is_decided status ≡ true → length choices ≡ length (phases_of script Whole)
-  pub legal : AreLegal (processors_of script) (phases_of script cut) choices
+  pub legal : AreLegal (queues_of (interfaces_of script)) (phases_of script cut) choices
 
 -- what is said on err
 abbrev pub said : Result Script Ending → ℕ → List ℕ

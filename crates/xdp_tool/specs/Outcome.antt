@@ -1,11 +1,11 @@
 -- What a run comes to: a function of its words, the contents of its files, how far reading went, and its choices.
-use Rattle.std.specs.Prelude.{ℕ, nat_lt, List, [], ◌∷◌, length, Result, Ok, Err, if◌then◌else◌}
+use Rattle.std.specs.Prelude.{ℕ, nat_lt, List, [], length, Result, Ok, Err, if◌then◌else◌}
 use Rattle.script_text.specs.Script.{◌>>=◌, script_of}
 use Rattle.script_text.specs.declared.script.Script.{Script}
 use Rattle.script_text.specs.declared.script.ScriptEnd.{ScriptEnd}
 use Rattle.script_text.specs.declared.script.ScriptEnd.TheVariants as end
-use Rattle.xdp_tool.specs.Plan.{Phase, plan}
-use Rattle.xdp_tool.specs.Queues.{Queue, queues_of}
+use Rattle.xdp_state.specs.declared.interface.Interface.{Interface}
+use Rattle.xdp_tool.specs.Plan.{Phase, plan, has_refusal}
 use Rattle.xdp_tool.specs.Words.{script_name}
 use Rattle.xdp_tool.specs.declared.ending.Ending.{Ending}
 use Rattle.xdp_tool.specs.declared.ending.Ending.TheVariants.{Done, BadScript, OutOfMemory, Limit}
@@ -34,13 +34,14 @@ pub data Cut : Type 0 where
   Early : Cut
 
 abbrev pub phases_of : Result Script Ending → Cut → List Phase
-phases_of (Ok script) Whole = plan script ∷ []
+phases_of (Ok script) Whole = plan script
 phases_of _ _ = []
 
-abbrev pub processors_of : Result Script Ending → List Queue
-processors_of (Ok script) = queues_of script.interfaces
-processors_of (Err _) = []
+abbrev pub interfaces_of : Result Script Ending → List Interface
+interfaces_of (Ok script) = script.interfaces
+interfaces_of (Err _) = []
 
+-- the ending of a run that meets no fault and has its memory
 abbrev pub ending_after : Result Script Ending → Ending
-ending_after (Ok _) = Done
+ending_after (Ok script) = Done (has_refusal (plan script))
 ending_after (Err ending) = ending

@@ -1,12 +1,23 @@
--- The words of the command line: one, the script's file, that is not empty and does not begin with `-`.
-use Rattle.std.specs.Prelude.{ℕ, ◌==◌, List, [], ◌∷◌, Result, Ok, Err, if◌then◌else◌}
+-- The words of the command line: `SCRIPT`, or `--trace FILE SCRIPT`. A name of a file isn't empty and doesn't begin with `-`,
+-- and the two are different.
+use Rattle.std.specs.Prelude.{ℕ, ◌==◌, ◌&&◌, Bool, false, not, List, [], ◌∷◌, codes, Option, Some, None, Result, Ok, Err, if◌then◌else◌}
+use Rattle.std.specs.Str.{bytes_eq}
 use Rattle.xdp_tool.specs.declared.ending.Ending.{Ending}
 use Rattle.xdp_tool.specs.declared.ending.Ending.TheVariants.{Usage}
 
-abbrev pub file_name : List ℕ → Result (List ℕ) Ending
-file_name [] = Err Usage
-file_name (b ∷ bs) = if b == 45 then Err Usage else Ok (b ∷ bs)
+-- the files that the words name
+pub record Names : Type 0 where
+  pub script : List ℕ
+  pub trace : Option (List ℕ)
 
-abbrev pub script_name : List (List ℕ) → Result (List ℕ) Ending
-script_name (word ∷ []) = file_name word
-script_name _ = Err Usage
+abbrev pub is_file_name : List ℕ → Bool
+is_file_name [] = false
+is_file_name (b ∷ bs) = not (b == 45)
+
+unfoldable pub names_in : List (List ℕ) → Result Names Ending
+names_in (script ∷ []) = if is_file_name script then Ok (record { script = script; trace = None }) else Err Usage
+names_in (option ∷ trace ∷ script ∷ []) =
+    if bytes_eq option (codes "--trace") && is_file_name trace && is_file_name script && not (bytes_eq trace script)
+    then Ok (record { script = script; trace = Some trace })
+    else Err Usage
+names_in _ = Err Usage

@@ -1,30 +1,25 @@
-ghost use Rattle.std.specs.Prelude.{◌≡◌, IfOk};
-ghost use Rattle.xdp_tool.specs.Lanes.{lanes_text, needs_from};
-ghost use Rattle.xdp_tool.specs.Plan.{Phase};
-ghost use Rattle.xdp_tool.specs.Queues.{queues_of};
-ghost use Rattle.xdp_tool.specs.Texts.{phase_text};
-ghost use Rattle.xdp_tool.specs.Walked.{Stands};
+ghost use Rattle.std.specs.Prelude.{◌≡◌, ◌++◌, IfOk, OnOk};
+ghost use Rattle.xdp_tool.specs.Lanes.{lanes_text, traces_of};
+ghost use Rattle.xdp_tool.specs.Texts.{closing_text};
+ghost use Rattle.xdp_tool.specs.Trace.{heading, end_mark};
 
 use crate::lane::Lane;
-use crate::walk::Walk;
-use script_text::{end_text, processor_line};
+use script_text::{Outcome, end_text, outcome_text, processor_line};
 use std::alloc::Global;
 use xio::{Bytes, OutOfMemory};
 
-/// What is printed at the script's end: what came of the lines, then a line for each processor.
-pub fn phase_text(alloc: Global, walk: &Walk<'_>) -> Result<Bytes, OutOfMemory>
-    ensures { (phase : Phase) → Stands walk.now phase → IfOk result (λ text. text
-        ≡ phase_text (queues_of walk.now.interfaces.now) phase (needs_from 0 (queues_of walk.now.interfaces.now) phase)) }
+/// What is printed of the barrier of this line, or of the script's end, after so many publications.
+pub fn closing_text(alloc: Global, barrier: Option<u32>, count: u32) -> Result<Bytes, OutOfMemory>
+    ensures { IfOk result (λ text. text ≡ closing_text barrier count) }
 {
-    let mut text = Bytes::new(alloc);
-    text.append(walk.text.as_slice())?;
-    text.append(end_text(alloc, walk.state.count())?.as_slice())?;
-    text.append(lanes_text(alloc, &walk.lanes)?.as_slice())?;
-    Ok(text)
+    match barrier {
+        Some(line) => outcome_text(alloc, line, &Outcome::Barrier(count)),
+        None => end_text(alloc, count),
+    }
 }
 
-/// A line for each processor.
-fn lanes_text(alloc: Global, lanes: &[Lane<'_>]) -> Result<Bytes, OutOfMemory>
+/// A line for each processor, with the sums of the phases that have ended.
+pub fn lanes_text(alloc: Global, lanes: &[Lane<'_>]) -> Result<Bytes, OutOfMemory>
     ensures { IfOk result (λ text. text ≡ lanes_text 0 lanes.now) }
 {
     let mut text = Bytes::new(alloc);
@@ -32,8 +27,38 @@ fn lanes_text(alloc: Global, lanes: &[Lane<'_>]) -> Result<Bytes, OutOfMemory>
         let Ok(processor) = u32::try_from(place) else {
             return Err(OutOfMemory);
         };
-        let line = processor_line(alloc, processor, lane.name, lane.queue, &lane.tally)?;
+        let line = processor_line(alloc, processor, lane.name, lane.queue, &lane.ended)?;
         text.append(line.as_slice())?;
     }
     Ok(text)
+}
+
+/// The trace of the phase of this number, which a barrier or the script's end ends.
+pub fn phase_trace(
+    alloc: Global,
+    number: u32,
+    lanes: &[Lane<'_>],
+    barrier: Option<u32>,
+) -> Result<Bytes, OutOfMemory>
+    ensures { IfOk result (λ text. text ≡ heading number ++ (traces_of lanes.now ++ end_mark barrier)) }
+{
+    let mut text = Bytes::new(alloc);
+    text.append(format!(in alloc; "phase {number}\n")?.as_bytes())?;
+    add_traces(&mut text, lanes)?;
+    if barrier.is_none() {
+        text.append(b"end\n")?;
+    }
+    Ok(text)
+}
+
+/// Adds the lanes' traces, one behind another.
+fn add_traces(text: &mut Bytes, lanes: &[Lane<'_>]) -> Result<(), OutOfMemory>
+    ensures { OnOk result (text.new ≡ text.old ++ traces_of lanes.now) }
+{
+    for lane in lanes {
+        if let Some(trace) = &lane.trace {
+            text.append(trace.as_slice())?;
+        }
+    }
+    Ok(())
 }

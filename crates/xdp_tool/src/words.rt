@@ -1,19 +1,46 @@
-ghost use Rattle.std.specs.Prelude.{◌≡◌, ◌≢◌, Result, Ok, Err, IfErr, map};
+ghost use Rattle.std.specs.Prelude.{◌≡◌};
 ghost use Rattle.xdp_tool.specs.Headline.{words_of};
-ghost use Rattle.xdp_tool.specs.Words.{script_name};
-ghost use Rattle.xdp_tool.specs.Named.{Names};
+ghost use Rattle.xdp_tool.specs.Named.{AreNames};
+ghost use Rattle.xdp_tool.specs.Words.{is_file_name, names_in};
 
 use crate::ending::Ending;
 
-/// The file that the words name: one word, which isn't empty and doesn't begin with `-`.
-pub fn script_name(words: &[String]) -> Result<&str, Ending>
-    ensures { Names result (script_name (words_of words.now)) }
+/// The files that the words name.
+#[derive(Clone, Copy, Debug)]
+pub struct Named<'a> {
+    pub script: &'a str,
+    pub trace: Option<&'a str>,
+}
+
+/// Takes `SCRIPT`, or `--trace FILE SCRIPT`.
+#[tactic(auto, unfolding(crate::specs::Words::names_in))]
+pub fn names_in(words: &[String]) -> Result<Named<'_>, Ending>
+    ensures { AreNames result (names_in (words_of words.now)) }
 {
-    let [word] = words else {
-        return Err(Ending::Usage);
+    let (trace, script) = match words {
+        [script] => (None, script.as_str()),
+        [option, trace, script] if option.as_str() == "--trace" => {
+            (Some(trace.as_str()), script.as_str())
+        }
+        _ => return Err(Ending::Usage),
     };
-    match word.as_bytes() {
-        [] | [b'-', ..] => Err(Ending::Usage),
-        _ => Ok(word.as_str()),
+    if !is_file_name(script) || !may_be_traced(trace, script) {
+        return Err(Ending::Usage);
+    }
+    Ok(Named { script, trace })
+}
+
+fn is_file_name(word: &str) -> bool
+    ensures { result ≡ is_file_name word.now }
+{
+    !matches!(word.as_bytes(), [] | [b'-', ..])
+}
+
+/// Whether a file may hold the trace of this script.
+fn may_be_traced(trace: Option<&str>, script: &str) -> bool
+{
+    match trace {
+        Some(trace) => is_file_name(trace) && trace != script,
+        None => true,
     }
 }
