@@ -1,14 +1,20 @@
 -- The printed texts. Numbers are decimal, and every line ends with a line feed.
-use Rattle.std.specs.Prelude.{ℕ, List, ◌++◌, sum, slice_index, codes}
+use Rattle.std.specs.Prelude.{ℕ, List, [], ◌++◌, sum, slice_index, codes}
 use Rattle.std.specs.Fmt.{decimal}
 use Rattle.xdp_state.specs.declared.tally.Tally.{Tally}
 use Rattle.script_text.specs.declared.outcome.Outcome.{Outcome}
-use Rattle.script_text.specs.declared.outcome.Outcome.TheVariants.{Ok, Handed}
+use Rattle.xio.specs.declared.action.Action.{Action}
+use Rattle.xdp_state.specs.Book.{Book}
+use Rattle.xdp_state.specs.declared.interface.Interface.{Interface}
 
--- what came of a line
 unfoldable pub outcome_text : ℕ → Outcome → List ℕ
-outcome_text line (Ok number) = decimal line ++ (codes " ok " ++ (decimal number ++ codes "\n"))
-outcome_text line (Handed packets) = decimal line ++ (codes " handed " ++ (decimal packets ++ codes "\n"))
+outcome_text line outcome = []
+
+unfoldable pub rules_text : List Interface → Book → Tally → List ℕ
+rules_text interfaces book tally = []
+
+unfoldable pub trace_line : ℕ → ℕ → ℕ → Action → ℕ → List ℕ → List ℕ
+trace_line processor place count verdict target frame = []
 
 -- the script's end
 unfoldable pub end_text : ℕ → List ℕ

@@ -6,6 +6,7 @@ use xio::{Bytes, List};
 pub enum What {
     Command(Command),
     Packet { processor: u32, frame: Bytes },
+    Barrier,
 }
 
 /// A line of the script, by its number from 1.

@@ -1,6 +1,5 @@
 pub mod Counts
+pub mod Phases
 pub mod Carrying
 pub mod Showing
-pub mod Standing
-pub mod AtEnd
-pub mod Explaining
+pub mod Finishing

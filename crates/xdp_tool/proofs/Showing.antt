@@ -1,11 +1,13 @@
 -- Lanes that show their processors' progress.
-use Rattle.std.proofs.Common.{◌≡◌, ℕ, ◌+◌, ◌<◌, ◌≤◌, Bool, true, false, cond, nat_eq, List, [], ◌∷◌, ◌++◌, length, slice_set, slice_index_or, map, arith, refl, ap, zero, suc, append-nil, append_assoc, add-zero, add-one, get_or, take, Result, Ok, Err, OnOk, min, ◌∙◌}
+use Rattle.std.proofs.Common.{◌≡◌, ℕ, ◌+◌, ◌<◌, ◌≤◌, Bool, true, false, cond, nat_eq, List, [], ◌∷◌, ◌++◌, length, slice_set, slice_index_or, map, flat_map, arith, refl, ap, zero, suc, append-nil, append_assoc, add-zero, add-one, get_or, take, Result, Ok, Err, OnOk, IfOk, min, ◌∙◌, sym}
 use Rattle.std.proofs.lemmas.List.{take_more, length-take}
 use Rattle.std.proofs.lemmas.Bool.Decides.{nat_tests}
 use Rattle.xdp_state.specs.Book.{Book}
-use Rattle.xdp_tool.specs.Lanes.{Progress, Shows, ShowAll, advanced, advance_from, idle, progress_from}
-use Rattle.xdp_tool.specs.Plan.{start}
+use Rattle.xdp_state.specs.Sums.{Counted}
+use Rattle.xdp_tool.specs.Lanes.{Progress, Shows, ShowAll, advanced, advance_from, idle, finished, finished_first, lanes_text, progress_from, if_traced}
+use Rattle.xdp_tool.specs.Plan.{opened}
 use Rattle.xdp_tool.specs.Queues.{Queue, queues_from, queues_on}
+use Rattle.xdp_tool.specs.Texts.{nothing_counted}
 use Rattle.xdp_state.specs.declared.interface.Interface.{Interface}
 use Rattle.xdp_tool.specs.declared.lane.Lane.{Lane}
 
@@ -23,7 +25,7 @@ show-other (l ∷ lanes) (p ∷ ps) first processor book frame above all =
     (rw no (all.0), show-other lanes ps (first + 1) processor book frame (omega arith) all.1)
 
 -- the lane at this place carried a packet
-pub show-carried : (lanes : List Lane) (ps : List Progress) (first place : ℕ) (book : Book) (frame : List ℕ) (lane new : Lane) → place < length lanes → lane ≡ slice_index_or lanes place lane → ((p : Progress) → Shows lane p → Shows new (advanced book frame p)) → ShowAll lanes ps → ShowAll (slice_set lanes place new) (advance_from first (first + place) book frame ps)
+pub show-carried : (lanes : List Lane) (ps : List Progress) (first place : ℕ) (book : Book) (frame : List ℕ) (lane new : Lane) → place < length lanes → lane ≡ slice_index_or lanes place lane → ((p : Progress) → Shows lane p → Shows new (advanced (first + place) book frame p)) → ShowAll lanes ps → ShowAll (slice_set lanes place new) (advance_from first (first + place) book frame ps)
 show-carried [] ps first place book frame lane new below is goes all = absurd (omega arith)
 show-carried (l ∷ lanes) [] first place book frame lane new below is goes all = absurd all
 show-carried (l ∷ lanes) (p ∷ ps) first zero book frame lane new below is goes all =
@@ -32,7 +34,29 @@ show-carried (l ∷ lanes) (p ∷ ps) first zero book frame lane new below is go
 show-carried (l ∷ lanes) (p ∷ ps) first (suc place) book frame lane new below is goes all =
     let no : nat_eq first (first + suc place) ≡ false = grind (arith, nat_tests) in
     let same : first + suc place ≡ first + 1 + place = omega arith in
-    rw no (all.0, rw same (show-carried lanes ps (first + 1) place book frame lane new (omega arith) is goes all.1))
+    rw no (all.0, rw same (show-carried lanes ps (first + 1) place book frame lane new (omega arith) is (rw same at goes) all.1))
+
+-- the lane at this place is through with the phase, as those before it
+pub show-finished : (lanes : List Lane) (ps : List Progress) (place : ℕ) (lane new : Lane) → place < length lanes → lane ≡ slice_index_or lanes place lane → ((p : Progress) → Shows lane p → Shows new (finished p)) → ShowAll lanes (finished_first place ps) → ShowAll (slice_set lanes place new) (finished_first (place + 1) ps)
+show-finished [] ps place lane new below is goes all = absurd (omega arith)
+show-finished (l ∷ lanes) [] zero lane new below is goes all = absurd all
+show-finished (l ∷ lanes) [] (suc place) lane new below is goes all = absurd all
+show-finished (l ∷ lanes) (p ∷ ps) zero lane new below is goes all = (goes p (rw is all.0), all.1)
+show-finished (l ∷ lanes) (p ∷ ps) (suc place) lane new below is goes all =
+    rw (add-one) (all.0, rw (add-one) at (show-finished lanes ps place lane new (omega arith) is goes all.1))
+
+-- all are
+pub finished-all : (n : ℕ) (ps : List Progress) → length ps ≤ n → finished_first n ps ≡ map finished ps
+finished-all zero [] all = refl
+finished-all zero (p ∷ ps) all = absurd (omega arith)
+finished-all (suc n) [] all = refl
+finished-all (suc n) (p ∷ ps) all = ap (λ more. finished p ∷ more) (finished-all n ps (omega arith))
+
+pub show-length : (lanes : List Lane) (ps : List Progress) → ShowAll lanes ps → length lanes ≡ length ps
+show-length [] [] all = refl
+show-length [] (p ∷ ps) all = absurd all
+show-length (l ∷ lanes) [] all = absurd all
+show-length (l ∷ lanes) (p ∷ ps) all = omega (arith, show-length lanes ps all.1)
 
 pub show-push : (lanes : List Lane) (ps : List Progress) (lane : Lane) (p : Progress) → ShowAll lanes ps → Shows lane p → ShowAll (lanes ++ lane ∷ []) (ps ++ p ∷ [])
 show-push [] [] lane p all this = (this, tt)
@@ -48,9 +72,13 @@ queues_from-push first (x ∷ interfaces) interface =
     rw (queues_from-push (first + 1) interfaces interface, place, append_assoc) refl
 
 -- before the first line each processor is idle
-pub progress_from-start : (first : ℕ) (queues : List Queue) → progress_from first queues start ≡ map idle queues
-progress_from-start first [] = refl
-progress_from-start first (queue ∷ queues) = ap (λ more. idle queue ∷ more) (progress_from-start (first + 1) queues)
+pub progress_from-start : (traced : Bool) (first : ℕ) (queues : List Queue) → progress_from traced first queues (nothing_counted queues) (opened []) ≡ map (idle traced) queues
+progress_from-start traced first [] = refl
+progress_from-start traced first (queue ∷ queues) = ap (λ more. idle traced queue ∷ more) (progress_from-start traced (first + 1) queues)
+
+pub length-nothing : (queues : List Queue) → length (nothing_counted queues) ≡ length queues
+length-nothing [] = refl
+length-nothing (queue ∷ queues) = omega (arith, length-nothing queues)
 
 pub queues_from-more : (interfaces : List Interface) (n : ℕ) (interface : Interface) → n < length interfaces → interface ≡ get_or interfaces n interface → queues_from 0 (take (n + 1) interfaces) ≡ queues_from 0 (take n interfaces) ++ queues_on n interface
 queues_from-more interfaces n interface below is =

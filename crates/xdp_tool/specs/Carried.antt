@@ -1,7 +1,7 @@
 -- The packets of a processor, carried with these counts.
 use Rattle.std.specs.Prelude.{ℕ, List, [], ◌∷◌, length, take, map}
 use Rattle.xdp_state.specs.Book.{after}
-use Rattle.xdp_state.specs.Sums.{Counted, counted}
+use Rattle.xdp_state.specs.Sums.{Counted, rules_of}
 use Rattle.xdp_state.specs.Traversal.{traversal}
 use Rattle.xdp_state.specs.declared.change.Change.{Change}
 use Rattle.xdp_state.specs.declared.traversal.Traversal.{Traversal}
@@ -20,6 +20,9 @@ carried published interface (h ∷ hs) (count ∷ counts) =
     ∷ carried published interface hs counts
 carried published interface _ _ = []
 
--- as sums count them
+-- what sums count of a packet, and of some packets
+abbrev pub counted : Traversal → ℕ → Counted
+counted way handed = record { verdict = way.verdict; handed = handed; rules = rules_of way.visits }
+
 abbrev pub counted_all : List Carried → List Counted
 counted_all packets = map (λ c. counted c.way c.handed) packets

@@ -13,4 +13,4 @@ pub record Closes (closed : Closed) (interfaces : List Interface) (traced : Bool
     : Type 0 where
   pub counts : closed.counts ≡ needs_from 0 (queues_of interfaces) phase
   pub out : closed.out ≡ phase_text interfaces phase past.counted (past_after interfaces past phase).counted
-  pub trace : closed.trace ≡ traced_text traced interfaces number phase
+  pub trace : closed.trace ≡ traced_text traced (queues_of interfaces) number phase (needs_from 0 (queues_of interfaces) phase)

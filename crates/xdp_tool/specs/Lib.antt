@@ -1,11 +1,12 @@
 pub mod Ending
-pub mod Walked
 pub mod Words
 pub mod Queues
 pub mod Plan
-pub mod Lanes
 pub mod Legal
+pub mod Carried
 pub mod Texts
-pub mod Outcome
-pub mod Headline
-pub mod Named
+pub mod Trace
+pub mod Lanes
+pub mod Walked
+pub mod Closed
+pub mod PhaseEnd

@@ -1,5 +1,5 @@
 -- What stands in the trace of a plan whose packets were carried with these counts.
-use Rattle.std.specs.Prelude.{ℕ, ◌+◌, List, [], ◌∷◌, ◌++◌, codes, Option, Some, None}
+use Rattle.std.specs.Prelude.{ℕ, ◌+◌, Bool, List, [], ◌∷◌, ◌++◌, codes, Option, Some, None, if◌then◌else◌}
 use Rattle.std.specs.Fmt.{decimal}
 use Rattle.script_text.specs.Texts.{trace_line}
 use Rattle.xdp_tool.specs.Carried.{Carried, carried}
@@ -8,14 +8,8 @@ use Rattle.xdp_tool.specs.Queues.{Queue}
 
 -- a packet of a processor, at its place from 0 in this phase
 abbrev pub packet_trace : ℕ → ℕ → Carried → List ℕ
-packet_trace processor place packet = trace_line (record {
-  processor = processor;
-  place = place;
-  count = packet.count;
-  verdict = packet.way.verdict;
-  target = packet.way.target;
-  frame = packet.way.frame;
-})
+packet_trace processor place packet =
+    trace_line processor place packet.count packet.way.verdict packet.way.target packet.way.frame
 
 -- the packets of a processor, from the one at the place on
 abbrev pub packets_trace : ℕ → ℕ → List Carried → List ℕ
@@ -53,3 +47,13 @@ first_line = codes "xdptrace 1\n"
 
 abbrev pub trace_text : List Queue → List Phase → List (List (List ℕ)) → List ℕ
 trace_text queues phases choices = first_line ++ traces_from queues 0 phases choices
+
+-- the trace where one is wanted
+abbrev pub trace_if : Bool → List Queue → List Phase → List (List (List ℕ)) → List ℕ
+trace_if traced queues phases choices = if traced then trace_text queues phases choices else []
+
+abbrev pub traces_if : Bool → List Queue → List Phase → List (List (List ℕ)) → List ℕ
+traces_if traced queues phases choices = if traced then traces_from queues 0 phases choices else []
+
+abbrev pub traced_text : Bool → List Queue → ℕ → Phase → List (List ℕ) → List ℕ
+traced_text traced queues number phase counts = if traced then phase_trace queues number phase counts else []

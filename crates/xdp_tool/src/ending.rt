@@ -19,8 +19,8 @@ pub enum LimitName {
 /// How a run ends.
 #[derive(Clone, Copy, Debug, PartialEq, Eq)]
 pub enum Ending {
-    /// The script ran to its end.
-    Done,
+    /// The script ran to its end, and a command may have been refused.
+    Done { refused: bool },
     /// The words aren't taken.
     Usage,
     /// A line of the script, from 1, breaks a rule.
@@ -39,7 +39,7 @@ impl Ending {
         ensures { result ≡ status_of self.now }
     {
         match self {
-            Ending::Done => 0,
+            Ending::Done { refused } => u8::from(*refused),
             Ending::Usage | Ending::BadScript { .. } => 2,
             Ending::Fault => 3,
             Ending::OutOfMemory => 4,
@@ -63,7 +63,7 @@ impl Ending {
     {
         let mut text = Bytes::new(alloc);
         match self {
-            Ending::Done => {}
+            Ending::Done { .. } => {}
             Ending::Usage => text.append(USAGE)?,
             Ending::BadScript { line, rule } => {
                 let said = format!(in alloc; "xdptool: line {line}: rule S{rule}\n")?;

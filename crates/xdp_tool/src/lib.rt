@@ -1,18 +1,13 @@
-//! `xdptool`: a script of commands and packets, run whole.
+//! The tool's top call.
 #![tactic(auto)]
 
-mod ended;
 mod ending;
 mod lane;
 mod perform;
-mod prepare;
 mod report;
-mod tell;
-#[cfg(test)]
-mod tests;
-mod tool;
 mod walk;
-mod words;
 
-pub use ended::Ended;
-pub use tool::run_tool;
+pub use ending::{Ending, LimitName};
+pub use lane::Lane;
+pub use perform::Stop;
+pub use walk::{Closed, Walk};

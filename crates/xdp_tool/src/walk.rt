@@ -1,5 +1,5 @@
 ghost use Rattle.std.specs.Prelude.{◌≡◌, ◌+◌, ◌<◌, ◌≤◌, true, List, [], ◌++◌, map, flat_map, IfOk, OnOk};
-ghost use Rattle.script_text.specs.Handed.{has_frame, has_flags, asks_flags, has_frame_size};
+ghost use Rattle.script_text.specs.Handed.{has_frame, has_flags, has_frame_size};
 ghost use Rattle.xdp_state.specs.Sums.{tally_of};
 ghost use Rattle.xdp_tool.specs.Lanes.{Progress, ShowAll, idle, advance_from, finished};
 ghost use Rattle.xdp_tool.specs.Queues.{Queue, queues_on, queues_of};
@@ -34,11 +34,12 @@ pub struct Closed {
 
 impl<'a> Walk<'a> {
     ghost use Rattle.script_text.specs.Texts.{outcome_text};
-    ghost use Rattle.xdp_state.specs.Answer.{answer};
+    ghost use Rattle.xdp_state.specs.Answer.{answer, rule_fits};
     ghost use Rattle.xdp_state.specs.Book.{after, takes};
     ghost use Rattle.xdp_state.specs.declared.judgement.Judgement.TheVariants as judgement;
     ghost use Rattle.xdp_tool.specs.Plan.{Phase, opened, with_what, with_answer, with_packet};
     ghost use Rattle.xdp_tool.specs.Closed.{Closes};
+    ghost use Rattle.xdp_tool.specs.Lanes.{needs_from};
     ghost use Rattle.xdp_tool.specs.Trace.{traced_text};
     ghost use Rattle.xdp_tool.specs.Walked.{Past, Stands, no_past, past_after};
 
@@ -80,7 +81,7 @@ impl<'a> Walk<'a> {
 
     /// Answers a command.
     fn answer(&mut self, alloc: Global, line: u32, command: &Command) -> Result<(), OutOfMemory>
-        requires flags { asks_flags command.now ≡ true }
+        requires flags { rule_fits command.now ≡ true }
         requires room { self.old.state.count < 65536 }
         ensures stands { (past : Past) (phase : Phase) → Stands self.old past phase → OnOk result (Stands self.new past
             (with_answer line (answer self.old.interfaces.now (after phase.published) command.now) phase)) }
@@ -189,7 +190,8 @@ impl<'a> Walk<'a> {
     /// The phase's trace, where one is wanted.
     fn trace(&self, alloc: Global, number: u32, barrier: Option<u32>) -> Result<Bytes, OutOfMemory>
         ensures { (past : Past) (phase : Phase) → Stands self.now past phase → IfOk result (λ text. text
-            ≡ traced_text self.now.traced self.now.interfaces.now number (record phase { barrier = barrier })) }
+            ≡ traced_text self.now.traced (queues_of self.now.interfaces.now) number (record phase { barrier = barrier })
+            (needs_from 0 (queues_of self.now.interfaces.now) phase)) }
     {
         if self.traced {
             phase_trace(alloc, number, &self.lanes, barrier)

@@ -1,0 +1,21 @@
+-- What the end of a phase leaves in choices and sinks.
+use Rattle.std.specs.Prelude.{◌≡◌, ℕ, List, [], ◌∷◌, ◌++◌, Result, Ok, Err}
+use Rattle.xio.specs.Prefixes.{AppendsPrefix}
+use Rattle.xdp_tool.specs.declared.perform.Stop.{Stop}
+use Rattle.xdp_tool.specs.declared.perform.Stop.TheVariants.{Fault, OutOfMemory}
+
+-- the text stands whole, or its front where there was a fault; where memory was wanting nothing was written
+abbrev pub EndsText : Result Unit Stop → List ℕ → List ℕ → List ℕ → Type 0
+EndsText (Ok _) old new text = new ≡ old ++ text
+EndsText (Err Fault) old new text = AppendsPrefix old new text
+EndsText (Err OutOfMemory) old new text = new ≡ old
+
+-- the phase's counts are the last choices, unless memory was wanting
+abbrev pub EndsChoices : Result Unit Stop → List (List (List ℕ)) → List (List (List ℕ)) → List (List ℕ) → Type 0
+EndsChoices (Err OutOfMemory) old new counts = new ≡ old
+EndsChoices _ old new counts = new ≡ old ++ counts ∷ []
+
+-- the text stands whole at `Ok`, and otherwise its front
+abbrev pub PutsText : {A : Type 0} → Result A Stop → List ℕ → List ℕ → List ℕ → Type 0
+PutsText (Ok _) old new text = new ≡ old ++ text
+PutsText (Err _) old new text = AppendsPrefix old new text
