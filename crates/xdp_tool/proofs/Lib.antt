@@ -3,3 +3,5 @@ pub mod Phases
 pub mod Carrying
 pub mod Showing
 pub mod Finishing
+pub mod Standing
+pub mod Running

@@ -10,3 +10,6 @@ pub mod Lanes
 pub mod Walked
 pub mod Closed
 pub mod PhaseEnd
+pub mod Outcome
+pub mod Named
+pub mod Headline

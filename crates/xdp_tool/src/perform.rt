@@ -54,6 +54,8 @@ pub fn perform<O: Sink, T: Sink>(
     ensures trace_flushed { IsTrue T.tells → OnOk result (T.flushed trace.new ≡ length (T.held trace.new)) }
     ensures fault { result ≡ Err Stop.Fault
         → Rose (O.faults out.old) (O.faults out.new) ⊎ Rose (T.faults trace.old) (T.faults trace.new) }
+    ensures same_out { O.setting out.new ≡ O.setting out.old }
+    ensures same_trace { T.setting trace.new ≡ T.setting trace.old }
 {
     start_trace(traced, trace)?;
     let refused = work(alloc, script, traced, out, trace, choices)?;
@@ -68,6 +70,7 @@ fn start_trace<T: Sink>(traced: bool, trace: &mut T) -> Result<(), Stop>
     ensures fault { result ≡ Err Stop.Fault → Rose (T.faults trace.old) (T.faults trace.new) }
     ensures no_memory { result ≢ Err Stop.OutOfMemory }
     ensures later { T.faults trace.old ≤ T.faults trace.new }
+    ensures same_setting { T.setting trace.new ≡ T.setting trace.old }
 {
     if traced {
         put(trace, b"xdptrace 1\n")
@@ -100,6 +103,8 @@ fn work<O: Sink, T: Sink>(
         → Rose (O.faults out.old) (O.faults out.new) ⊎ Rose (T.faults trace.old) (T.faults trace.new) }
     ensures out_later { O.faults out.old ≤ O.faults out.new }
     ensures trace_later { T.faults trace.old ≤ T.faults trace.new }
+    ensures same_out { O.setting out.new ≡ O.setting out.old }
+    ensures same_trace { T.setting trace.new ≡ T.setting trace.old }
 {
     let mut walk = match Walk::new(alloc, &script.interfaces, traced) {
         Ok(walk) => walk,
@@ -161,6 +166,8 @@ fn end_phase<O: Sink, T: Sink>(
         → Rose (O.faults out.old) (O.faults out.new) ⊎ Rose (T.faults trace.old) (T.faults trace.new) }
     ensures out_later { O.faults out.old ≤ O.faults out.new }
     ensures trace_later { T.faults trace.old ≤ T.faults trace.new }
+    ensures same_out { O.setting out.new ≡ O.setting out.old }
+    ensures same_trace { T.setting trace.new ≡ T.setting trace.old }
 {
     let closed = match walk.close(alloc, choices.len(), barrier) {
         Ok(closed) => closed,
@@ -191,6 +198,8 @@ fn put_both<O: Sink, T: Sink>(
     ensures no_memory { result ≢ Err Stop.OutOfMemory }
     ensures out_later { O.faults out.old ≤ O.faults out.new }
     ensures trace_later { T.faults trace.old ≤ T.faults trace.new }
+    ensures same_out { O.setting out.new ≡ O.setting out.old }
+    ensures same_trace { T.setting trace.new ≡ T.setting trace.old }
 {
     put(out, text)?;
     put(trace, trace_text)
@@ -202,6 +211,7 @@ fn put<S: Sink>(sink: &mut S, text: &[u8]) -> Result<(), Stop>
     ensures fault { result ≡ Err Stop.Fault → Rose (S.faults sink.old) (S.faults sink.new) }
     ensures no_memory { result ≢ Err Stop.OutOfMemory }
     ensures later { S.faults sink.old ≤ S.faults sink.new }
+    ensures same_setting { S.setting sink.new ≡ S.setting sink.old }
 {
     match write_all(sink, text) {
         Ok(()) => Ok(()),
@@ -214,6 +224,7 @@ fn settle<S: Sink>(sink: &mut S) -> Result<(), Stop>
     ensures same { IsTrue S.tells → S.held sink.new ≡ S.held sink.old }
     ensures flushed { IsTrue S.tells → OnOk result (S.flushed sink.new ≡ length (S.held sink.new)) }
     ensures later { S.faults sink.old ≤ S.faults sink.new }
+    ensures same_setting { S.setting sink.new ≡ S.setting sink.old }
     ensures fault { result ≡ Err Stop.Fault → Rose (S.faults sink.old) (S.faults sink.new) }
     ensures no_memory { result ≢ Err Stop.OutOfMemory }
 {

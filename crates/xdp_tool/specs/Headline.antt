@@ -1,0 +1,99 @@
+-- What the top call promises of a run, of a script or of what kept the run from its first line.
+use Rattle.std.specs.Prelude.{◌≡◌, ◌⊎◌, ℕ, ◌==◌, ◌||◌, ◌&&◌, Bool, true, not, nat_eq, Option, Some, None, List, [], ◌∷◌, ◌++◌, length, take, map, Result, Ok, Err, if◌then◌else◌}
+use Rattle.std.specs.Prelude.{String}
+use Rattle.std.specs.String.{string_bytes}
+use Rattle.xio.specs.Told.{Told}
+use Rattle.script_text.specs.declared.script.Script.{Script}
+use Rattle.xdp_tool.specs.Ending.{status_of, line_of, err_text}
+use Rattle.xdp_tool.specs.Legal.{AreLegal}
+use Rattle.xdp_tool.specs.Outcome.{Cut, Whole, phases_of, interfaces_of, ending_after}
+use Rattle.xdp_tool.specs.Queues.{queues_of}
+use Rattle.xdp_tool.specs.Texts.{out_text}
+use Rattle.xdp_tool.specs.Trace.{trace_text}
+use Rattle.xdp_tool.specs.Words.{Names}
+use Rattle.std.specs.Cmp.Lexicographic.{pointwise}
+use Rattle.xio.specs.Prefixes.{AppendsPrefix}
+use Rattle.xdp_tool.specs.declared.ending.Ending.{Ending}
+use Rattle.xdp_tool.specs.declared.ending.Ending.TheVariants.{Fault, OutOfMemory}
+
+abbrev pub words_of : {A : Type 0} → List (String A) → List (List ℕ)
+words_of words = map string_bytes words
+
+-- a status that is a function of the inputs: that of a run which neither met a fault nor wanted memory
+abbrev pub is_decided : ℕ → Bool
+is_decided status = (status == 0) || (status == 1) || (status == 2) || (status == 5)
+
+-- the statuses that there are
+abbrev pub is_status : ℕ → Bool
+is_status status = is_decided status || (status == 3) || (status == 4)
+
+-- the statuses of a script that ran to its end
+abbrev pub is_end : ℕ → Bool
+is_end status = (status == 0) || (status == 1)
+
+-- the statuses of a run whose out is whole
+abbrev pub is_whole : ℕ → Bool
+is_whole status = is_end status || (status == 2)
+
+-- the status and the line are those of the script's reading and running
+pub record IsDecided (script : Result Script Ending) (status line : ℕ) : Type 0 where
+  pub status_is : status ≡ status_of (ending_after script)
+  pub line_is : line ≡ line_of (ending_after script)
+
+-- the text of out for the phases that the choices cover
+abbrev pub out_of : Result Script Ending → Cut → List (List (List ℕ)) → List ℕ
+out_of script cut choices = out_text (interfaces_of script) (phases_of script cut) choices
+
+-- the trace's text for these phases
+abbrev pub trace_of : Result Script Ending → Cut → List (List (List ℕ)) → List ℕ
+trace_of script cut choices = trace_text (queues_of (interfaces_of script)) (phases_of script cut) choices
+
+-- The choices are legal for the phases that they cover, of the plan with this cut. With a decided status nothing was cut and
+-- all phases are covered.
+pub record IsExplained (script : Result Script Ending) (status : ℕ) (choices : List (List (List ℕ))) (cut : Cut) : Type 0 where
+  pub whole : is_decided status ≡ true → cut ≡ Whole
+  pub covered : is_decided status ≡ true → length choices ≡ length (phases_of script Whole)
+  pub legal : AreLegal (queues_of (interfaces_of script)) (phases_of script cut) choices
+
+-- what is said on err
+abbrev pub said : Result Script Ending → ℕ → List ℕ
+said script status =
+    if status == 3 then err_text Fault
+    else if status == 4 then err_text OutOfMemory
+    else err_text (ending_after script)
+
+-- the file that is read, and the file that a trace is wanted in
+abbrev pub asked_names : Result Names Ending → List (List ℕ)
+asked_names (Ok names) = names.script ∷ []
+asked_names (Err _) = []
+
+abbrev pub trace_name : Result Names Ending → Option (List ℕ)
+trace_name (Ok names) = names.trace
+trace_name (Err _) = None
+
+-- the file is as it was, or it was made and holds the front of its text
+abbrev pub IsTracedUpTo : Told → Told → List ℕ → List ℕ → Type 0
+IsTracedUpTo old new text name = (new.content name ≡ old.content name) ⊎ AppendsPrefix [] (new.content name) text
+
+-- the file holds its text, all of it flushed
+pub record IsTraced (new : Told) (text name : List ℕ) : Type 0 where
+  pub content : new.content name ≡ text
+  pub flushed : new.flushed name ≡ length text
+
+abbrev pub AppendsNames : List (List ℕ) → List (List ℕ) → List (List ℕ) → Type 0
+AppendsNames old new names = (n : ℕ) × (new ≡ old ++ take n names)
+
+-- is this another name than that of the file that may be made?
+abbrev pub is_other : Option (List ℕ) → List ℕ → Bool
+is_other None name = true
+is_other (Some made) name = not (pointwise nat_eq name made)
+
+-- only the front of these names was asked for, and no file but this one was made or changed
+pub record Touches (old new : Told) (names : List (List ℕ)) (made : Option (List ℕ)) : Type 0 where
+  pub asked : AppendsNames old.asked new.asked names
+  pub content : (name : List ℕ) → is_other made name ≡ true → new.content name ≡ old.content name
+  pub flushed : (name : List ℕ) → is_other made name ≡ true → new.flushed name ≡ old.flushed name
+
+-- no file is made where a run ends before the first line
+abbrev pub made_name : Result Names Ending → ℕ → Option (List ℕ)
+made_name names status = if is_decided status && not (is_end status) then None else trace_name names

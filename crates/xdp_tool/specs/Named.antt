@@ -1,0 +1,20 @@
+-- Names that were taken from the words, and a script that was read, against what is wanted.
+use Rattle.std.specs.Prelude.{◌≡◌, ℕ, List, Result, Ok, Err, option_map, ⊤}
+use Rattle.script_text.specs.declared.script.Script.{Script}
+use Rattle.xdp_tool.specs.Words.{Names}
+use Rattle.xdp_tool.specs.declared.ending.Ending.{Ending}
+use Rattle.xdp_tool.specs.declared.ending.Ending.TheVariants.{Fault, OutOfMemory}
+use Rattle.xdp_tool.specs.declared.words.Named.{Named}
+
+abbrev pub names_of : Named → Names
+names_of named = record { script = named.script.now; trace = option_map (λ trace. trace.now) named.trace }
+
+abbrev pub AreNames : Result Named Ending → Result Names Ending → Type 0
+AreNames (Ok named) wanted = wanted ≡ Ok (names_of named)
+AreNames (Err ending) wanted = wanted ≡ Err ending
+
+-- only a fault and want of memory are free
+abbrev pub Prepares : Result Script Ending → Result Script Ending → Type 0
+Prepares (Err Fault) wanted = ⊤
+Prepares (Err OutOfMemory) wanted = ⊤
+Prepares result wanted = wanted ≡ result

@@ -1,0 +1,55 @@
+ghost use Rattle.std.specs.Prelude.{◌≡◌, ◌≢◌, ◌≤◌, [], ◌∷◌, true, false, length, Err, IfOk, IfErr, IsTrue, None};
+ghost use Rattle.std.specs.List.{list_all};
+ghost use Rattle.script_text.specs.Handed.{has_frame, has_flags};
+ghost use Rattle.xio.specs.Causes.{Rose};
+ghost use Rattle.xdp_tool.specs.Ending.{status_of};
+ghost use Rattle.xdp_tool.specs.Headline.{is_end, Touches};
+ghost use Rattle.xdp_tool.specs.Named.{Prepares};
+ghost use Rattle.xdp_tool.specs.Outcome.{script_at};
+
+use crate::ending::{Ending, LimitName};
+use script_text::{Script, ScriptEnd, read_script};
+use std::alloc::Global;
+use xio::{Bytes, Files, ReadEnd, read_file};
+
+/// The most bytes of a script.
+const SCRIPT_BYTES: u64 = 16_777_216;
+
+/// The script in the named file.
+pub fn prepare<F: Files>(alloc: Global, files: &mut F, name: &str) -> Result<Script, Ending>
+    ensures script { IsTrue F.tells → Prepares result (script_at ((F.told files.old).content name.now)) }
+    ensures lines { IfOk result (λ script. length script.lines ≤ 65536) }
+    ensures frames { IfOk result (λ script. list_all has_frame script.lines ≡ true) }
+    ensures flags { IfOk result (λ script. list_all has_flags script.lines ≡ true) }
+    ensures failed { IfErr result (λ ending. is_end (status_of ending) ≡ false) }
+    ensures fault { result ≡ Err Ending.Fault → Rose (F.read_faults files.old) (F.read_faults files.new) }
+    ensures same_write_faults { F.write_faults files.new ≡ F.write_faults files.old }
+    ensures touched { IsTrue F.tells → Touches (F.told files.old) (F.told files.new) (name.now ∷ []) None }
+    ensures same_handles { F.handles files.new ≡ F.handles files.old }
+{
+    let mut bytes = Bytes::new(alloc);
+    match read_file(files, name, SCRIPT_BYTES, &mut bytes) {
+        Ok(()) => script_in(alloc, bytes.as_slice()),
+        Err(ReadEnd::ReadFault) => Err(Ending::Fault),
+        Err(ReadEnd::TooLarge { .. }) => Err(Ending::Limit(LimitName::Script)),
+        Err(ReadEnd::OutOfMemory) => Err(Ending::OutOfMemory),
+    }
+}
+
+/// The script in these bytes, at most 16 MiB.
+fn script_in(alloc: Global, bytes: &[u8]) -> Result<Script, Ending>
+    requires { length bytes.now ≤ 16777216 }
+    ensures script { Prepares result (script_at bytes.now) }
+    ensures lines { IfOk result (λ script. length script.lines ≤ 65536) }
+    ensures frames { IfOk result (λ script. list_all has_frame script.lines ≡ true) }
+    ensures flags { IfOk result (λ script. list_all has_flags script.lines ≡ true) }
+    ensures failed { IfErr result (λ ending. is_end (status_of ending) ≡ false) }
+    ensures no_fault { result ≢ Err Ending.Fault }
+{
+    match read_script(alloc, bytes) {
+        Ok(script) => Ok(script),
+        Err(ScriptEnd::BadScript { line, rule }) => Err(Ending::BadScript { line, rule }),
+        Err(ScriptEnd::TooManyLines) => Err(Ending::Limit(LimitName::Lines)),
+        Err(ScriptEnd::OutOfMemory) => Err(Ending::OutOfMemory),
+    }
+}

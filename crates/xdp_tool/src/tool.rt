@@ -1,0 +1,129 @@
+ghost use Rattle.std.specs.Prelude.{◌≡◌, ◌⊎◌, ◌++◌, true, false, [], length, IsTrue, IfSome};
+ghost use Rattle.xio.specs.Causes.{Rose};
+ghost use Rattle.xio.specs.Prefixes.{AppendsPrefix, AppendsUnless};
+ghost use Rattle.xdp_tool.specs.Ending.{status_of};
+ghost use Rattle.xdp_tool.specs.Headline.{words_of, is_status, is_decided, is_end, is_whole, IsDecided, IsExplained, IsTraced, IsTracedUpTo, out_of, trace_of, said, asked_names, trace_name, made_name, Touches};
+ghost use Rattle.xdp_tool.specs.Named.{names_of};
+ghost use Rattle.xdp_tool.specs.Outcome.{Cut, Whole, prepared, script_at, ending_after};
+ghost use Rattle.xdp_tool.specs.Words.{names_in};
+
+use crate::ended::Ended;
+use crate::ending::Ending;
+use crate::perform::{Stop, perform};
+use crate::prepare::prepare;
+use crate::tell::tell;
+use crate::traced::perform_into;
+use crate::words::{Named, names_in};
+use script_text::Script;
+use std::alloc::Global;
+use xdp_state::Choices;
+use xio::{Files, Sink, SteadySink};
+
+/// Runs the script that the words name, prints to out what comes of it, writes the trace where one is wanted, and says on
+/// err why it ended early.
+pub fn run_tool<F: Files, O: Sink, E: Sink>(
+    alloc: Global,
+    words: &[String],
+    files: &mut F,
+    out: &mut O,
+    err: &mut E,
+) -> Ended
+    // There are six statuses, and only a broken rule names a line.
+    ensures known { is_status result.status ≡ true }
+    ensures no_line { is_decided result.status ≡ false → result.line ≡ 0 }
+
+    // A fault comes only where the files or out failed in this call.
+    ensures fault { result.status ≡ 3 → Rose (F.read_faults files.old) (F.read_faults files.new)
+        ⊎ Rose (F.write_faults files.old) (F.write_faults files.new)
+        ⊎ Rose (O.faults out.old) (O.faults out.new) }
+
+    // Any other status but want of memory is a function of words and files.
+    ensures decided { IsTrue F.tells → is_decided result.status ≡ true
+        → IsDecided (prepared (words_of words.now) (F.told files.old).content) result.status result.line }
+
+    // The choices are legal, and out and the trace are the fronts of their texts for them.
+    ensures explained { IsTrue F.tells → (cut : Cut)
+        × IsExplained (prepared (words_of words.now) (F.told files.old).content) result.status result.choices cut
+        × (IsTrue O.tells → AppendsPrefix (O.held out.old) (O.held out.new)
+        (out_of (prepared (words_of words.now) (F.told files.old).content) cut result.choices))
+        × IfSome (trace_name (names_in (words_of words.now))) (IsTracedUpTo (F.told files.old) (F.told files.new)
+        (trace_of (prepared (words_of words.now) (F.told files.old).content) cut result.choices)) }
+
+    // Out is whole and flushed where the script ran to its end, and so is the trace. Out is whole with a decided status.
+    ensures whole { IsTrue F.tells → IsTrue O.tells → is_whole result.status ≡ true → O.held out.new
+        ≡ O.held out.old ++ out_of (prepared (words_of words.now) (F.told files.old).content) Whole result.choices }
+    ensures flushed { IsTrue O.tells → is_end result.status ≡ true → O.flushed out.new ≡ length (O.held out.new) }
+    ensures traced { IsTrue F.tells → is_end result.status ≡ true → IfSome (trace_name (names_in (words_of words.now)))
+        (IsTraced (F.told files.new) (trace_of (prepared (words_of words.now) (F.told files.old).content) Whole result.choices)) }
+    ensures limit { IsTrue F.tells → IsTrue O.tells → result.status ≡ 5
+        → AppendsUnless (Rose (F.write_faults files.old) (F.write_faults files.new) ⊎ Rose (O.faults out.old) (O.faults out.new))
+        (O.held out.old) (O.held out.new)
+        (out_of (prepared (words_of words.now) (F.told files.old).content) Whole result.choices) }
+
+    // Err has its text whole, or its front where err failed.
+    ensures err_told { IsTrue E.tells → (is_decided result.status ≡ true → IsTrue F.tells)
+        → AppendsUnless (Rose (E.faults err.old) (E.faults err.new)) (E.held err.old) (E.held err.new)
+        (said (prepared (words_of words.now) (F.told files.old).content) result.status) }
+
+    // Only the script's file is asked for, only the trace's file is made or changed, and no file stays open.
+    ensures touched { IsTrue F.tells → Touches (F.told files.old) (F.told files.new)
+        (asked_names (names_in (words_of words.now))) (made_name (names_in (words_of words.now)) result.status) }
+    ensures same_handles { F.handles files.new ≡ F.handles files.old }
+
+    // What out and err are stays.
+    ensures same_out { O.setting out.new ≡ O.setting out.old }
+    ensures same_err { E.setting err.new ≡ E.setting err.old }
+{
+    let mut choices = Choices::new(alloc);
+    let ending = match names_in(words) {
+        Ok(named) => run(alloc, &named, files, out, &mut choices),
+        Err(ending) => ending,
+    };
+    let ending = tell(alloc, err, ending);
+    Ended {
+        status: ending.status(),
+        line: ending.line(),
+        choices,
+    }
+}
+
+/// Runs the named script, and answers how the run ends.
+fn run<F: Files, O: Sink>(
+    alloc: Global,
+    named: &Named<'_>,
+    files: &mut F,
+    out: &mut O,
+    choices: &mut Choices,
+) -> Ending
+{
+    match prepare(alloc, files, named.script) {
+        Ok(script) => ending_of(work(alloc, &script, named.trace, files, out, choices)),
+        Err(ending) => ending,
+    }
+}
+
+/// Performs a script, with its trace in the named file where there is a name.
+fn work<F: Files, O: Sink>(
+    alloc: Global,
+    script: &Script,
+    trace: Option<&str>,
+    files: &mut F,
+    out: &mut O,
+    choices: &mut Choices,
+) -> Result<bool, Stop>
+{
+    match trace {
+        Some(name) => perform_into(alloc, script, files, name, out, choices),
+        None => perform(alloc, script, false, out, &mut SteadySink, choices),
+    }
+}
+
+/// How a run ends that performed its script so.
+fn ending_of(result: Result<bool, Stop>) -> Ending
+{
+    match result {
+        Ok(refused) => Ending::Done { refused },
+        Err(Stop::Fault) => Ending::Fault,
+        Err(Stop::OutOfMemory) => Ending::OutOfMemory,
+    }
+}
