@@ -12,6 +12,7 @@ mod reading;
 mod real;
 mod sink;
 mod source;
+mod steady;
 #[cfg(test)]
 mod tests;
 mod whole_file;
@@ -30,6 +31,7 @@ pub use reading::read_all;
 pub use real::{RealFiles, RealOut};
 pub use sink::Sink;
 pub use source::Source;
+pub use steady::SteadySink;
 pub use whole_file::read_file;
 pub use write_fault::WriteFault;
 pub use writing::write_all;
