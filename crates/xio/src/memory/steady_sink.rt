@@ -1,4 +1,4 @@
-ghost use Rattle.std.specs.Prelude.{[], false};
+ghost use Rattle.std.specs.Prelude.{◌≡◌, [], false, length, Ok};
 
 use crate::failed::Failed;
 use crate::sink::Sink;
@@ -18,11 +18,15 @@ impl Sink for SteadySink {
 
     ghost setting = { λ _. tt };
 
-    fn write(&mut self, piece: &[u8]) -> Result<usize, Failed> {
+    fn write(&mut self, piece: &[u8]) -> Result<usize, Failed>
+        ensures whole { result ≡ Ok (length piece.now) }
+    {
         Ok(piece.len())
     }
 
-    fn flush(&mut self) -> Result<(), Failed> {
+    fn flush(&mut self) -> Result<(), Failed>
+        ensures ok { result ≡ Ok tt }
+    {
         Ok(())
     }
 }
