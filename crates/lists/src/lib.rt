@@ -4,6 +4,8 @@
 mod bytes;
 mod list;
 mod memory;
+#[cfg(test)]
+mod tests;
 
 pub use bytes::Bytes;
 pub use list::List;

@@ -10,5 +10,7 @@ pub mod Room
 pub mod Pieces
 pub mod Shelf
 pub mod Numbers
+pub mod InMemory
 pub mod MemoryFiles
+pub mod SteadyFiles
 pub mod Slot

@@ -2,19 +2,13 @@
 use Rattle.std.specs.Prelude.{ℕ, Bool, List, is_some}
 use Rattle.xio.specs.Handles.{Handle}
 use Rattle.xio.specs.Told.{Told}
-use Rattle.xio.specs.Shelf.{file_named, content_of, flushed_of}
-use Rattle.xio.specs.Numbers.{handle_at, name_at, call_at, names_asked, place_at}
+use Rattle.xio.specs.InMemory.{told_from}
+use Rattle.xio.specs.Shelf.{file_named}
+use Rattle.xio.specs.Numbers.{handle_at}
 use Rattle.xio.specs.declared.memory.files.MemoryFiles.{MemoryFiles}
 
 abbrev pub told_by : MemoryFiles → Told
-told_by files = record {
-  content = content_of files.shelf.files.items;
-  flushed = flushed_of files.shelf.files.items;
-  asked = names_asked files.numbers.asks.items;
-  places = place_at files.numbers.asks.items;
-  name_of = name_at files.numbers.entries.items;
-  call_of = call_at files.numbers.entries.items;
-}
+told_by files = told_from files.shelf.files.items files.numbers.entries.items files.numbers.asks.items
 
 abbrev pub handles_of : MemoryFiles → ℕ → Handle
 handles_of files = handle_at files.numbers.entries.items

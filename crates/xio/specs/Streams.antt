@@ -46,7 +46,7 @@ abbrev pub WritesAll : List ℕ → List ℕ → Result Unit WriteFault → List
 WritesAll old new (Ok _) bytes = new ≡ old ++ bytes
 WritesAll old new (Err fault) bytes = new ≡ old ++ take fault.written bytes
 
--- at `Ok` all that is held is flushed
-abbrev pub Flushes : {E : Type 0} → List ℕ → ℕ → Result Unit E → Type 0
-Flushes held flushed (Ok _) = flushed ≡ length held
-Flushes held flushed (Err _) = Unit {0}
+-- at `Ok` all that is held is flushed, and at `Err` as much as before
+abbrev pub Flushes : {E : Type 0} → List ℕ → ℕ → ℕ → Result Unit E → Type 0
+Flushes held old new (Ok _) = new ≡ length held
+Flushes held old new (Err _) = new ≡ old

@@ -24,7 +24,7 @@ pub use file_sink::FileSink;
 pub use file_source::FileSource;
 pub use files::{FileFault, Files};
 pub use lists::{Bytes, List, OutOfMemory};
-pub use memory::{MemoryFiles, MemorySink, MemorySource};
+pub use memory::{MemoryFiles, MemorySink, MemorySource, SteadyFiles, SteadySink};
 pub use read_end::ReadEnd;
 pub use reading::read_all;
 pub use real::{RealFiles, RealOut};

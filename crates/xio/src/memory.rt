@@ -1,4 +1,4 @@
-//! Forms in memory: they tell everything, and fail where they are told to.
+//! Forms in memory: those that tell everything and fail where they are told to, and steady ones that never fail.
 
 mod ask;
 mod calls;
@@ -11,8 +11,12 @@ mod room;
 mod shelf;
 mod sink;
 mod source;
+mod steady_files;
+mod steady_sink;
 mod stored_file;
 
 pub use files::MemoryFiles;
 pub use sink::MemorySink;
 pub use source::MemorySource;
+pub use steady_files::SteadyFiles;
+pub use steady_sink::SteadySink;

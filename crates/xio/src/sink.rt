@@ -31,10 +31,10 @@ pub trait Sink {
         ensures cause { HasCause (faults self.old) (faults self.new) result }
         ensures same_setting { setting self.new ≡ setting self.old };
 
-    /// At `Ok` all that it holds is flushed.
+    /// At `Ok` all that it holds is flushed, and at `Err` as much as before.
     fn flush(&mut self) -> Result<(), Failed>
         ensures same_held { IsTrue tells → held self.new ≡ held self.old }
-        ensures all { IsTrue tells → Flushes (held self.new) (flushed self.new) result }
+        ensures all { IsTrue tells → Flushes (held self.new) (flushed self.old) (flushed self.new) result }
         ensures cause { HasCause (faults self.old) (faults self.new) result }
         ensures same_setting { setting self.new ≡ setting self.old };
 }

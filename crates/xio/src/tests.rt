@@ -105,6 +105,30 @@ fn makes_a_file_anew(rt: HostRuntime) -> Result<(), Fail> {
 }
 
 #[test]
+fn steady_files_keep_what_was_added(rt: HostRuntime) -> Result<(), Fail> {
+    let mut files = SteadyFiles::new(rt.alloc());
+    files.add("a", b"abcdef")?;
+    let mut into = Bytes::new(rt.alloc());
+    assert_eq!(rt; read_file(&mut files, "a", 6, &mut into), Ok(()));
+    assert_eq!(rt; into.as_slice(), b"abcdef".as_slice());
+    write_file(&mut files, "a", b"new")?;
+    write_file(&mut files, "b", b"new")?;
+    for name in ["a", "b", "c"] {
+        assert_eq!(rt; read_file(&mut files, name, 0, &mut into), Ok(()), "{name}");
+    }
+    assert_eq!(rt; into.as_slice(), b"abcdef".as_slice());
+    Ok(())
+}
+
+#[test]
+fn a_steady_sink_takes_all(rt: HostRuntime) {
+    let mut sink = SteadySink;
+    assert_eq!(rt; write_all(&mut sink, b"abc"), Ok(()));
+    assert_eq!(rt; sink.write(b"abc"), Ok(3));
+    assert_eq!(rt; sink.flush(), Ok(()));
+}
+
+#[test]
 fn makes_and_reads_a_real_file(rt: HostRuntime) -> Result<(), Fail> {
     let mut path = env::temp_dir(&rt)?;
     path.push("xio_makes_and_reads_a_real_file")?;

@@ -64,14 +64,7 @@ impl MemoryFiles {
         ensures err { OnErr result (told_by self.new ≡ told_by self.old) }
         ensures same_handles { handles_of self.new ≡ handles_of self.old }
     {
-        let mut room = Room::new(self.alloc, bytes.len())?;
-        let _ = room.put(bytes);
-        let file = StoredFile {
-            name: copy_of(self.alloc, name.as_bytes())?,
-            room,
-            flushed: 0,
-            bad_place,
-        };
+        let file = StoredFile::holding(self.alloc, name, bytes, bad_place)?;
         self.shelf.reserve()?;
         self.shelf.place(file);
         Ok(())

@@ -20,7 +20,8 @@ pub fn piece_at(bytes: &[u8], place: u64, bad_place: Option<u64>) -> Result<&[u8
     })
 }
 
-fn rest_from(bytes: &[u8], place: u64) -> &[u8]
+/// What stands from this place on.
+pub fn rest_from(bytes: &[u8], place: u64) -> &[u8]
     ensures { result.now ≡ drop place bytes.now }
 {
     if place < bytes.len() as u64 {

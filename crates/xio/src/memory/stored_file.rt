@@ -1,5 +1,9 @@
+ghost use Rattle.std.specs.Prelude.{◌≡◌, IfOk};
+
+use crate::memory::copies::copy_of;
 use crate::memory::room::Room;
-use lists::Bytes;
+use lists::{Bytes, OutOfMemory};
+use std::alloc::Global;
 
 /// A file in memory.
 #[derive(Debug, Drop)]
@@ -10,4 +14,28 @@ pub struct StoredFile {
     pub flushed: usize,
     /// Where a read of it fails.
     pub bad_place: Option<u64>,
+}
+
+impl StoredFile {
+    /// A file of these bytes, with no room for more.
+    pub fn holding(
+        alloc: Global,
+        name: &str,
+        bytes: &[u8],
+        bad_place: Option<u64>,
+    ) -> Result<Self, OutOfMemory>
+        ensures name { IfOk result (λ file. file.name ≡ name.now) }
+        ensures bytes { IfOk result (λ file. file.room.bytes ≡ bytes.now) }
+        ensures unflushed { IfOk result (λ file. file.flushed ≡ 0) }
+        ensures bad_place { IfOk result (λ file. file.bad_place ≡ bad_place) }
+    {
+        let mut room = Room::new(alloc, bytes.len())?;
+        let _ = room.put(bytes);
+        Ok(StoredFile {
+            name: copy_of(alloc, name.as_bytes())?,
+            room,
+            flushed: 0,
+            bad_place,
+        })
+    }
 }

@@ -8,6 +8,6 @@ loop-written-preserved g c = record {
   within = search rules;
   held = λ told. grind (arith, common_steps, take-piece, c.loop-written.invariant.held told, c.in-Ok.ensures.bytes told);
   flushed = search rules;
-  later = search rules;
+  same_faults = search rules;
   same_setting = search rules;
 }

@@ -6,7 +6,7 @@ invariant-loop-written g l = record {
   within : l.written ≤ length l.bytes;
   held : IsTrue g.K.Sink.tells → g.K.Sink.held l.sink ≡ g.K.Sink.held l.fn.sink ++ take l.written l.bytes;
   flushed : IsTrue g.K.Sink.tells → g.K.Sink.flushed l.sink ≡ g.K.Sink.flushed l.fn.sink;
-  later : g.K.Sink.faults l.fn.sink ≤ g.K.Sink.faults l.sink;
+  same_faults : g.K.Sink.faults l.sink ≡ g.K.Sink.faults l.fn.sink;
   same_setting : g.K.Sink.setting l.sink ≡ g.K.Sink.setting l.fn.sink;
 }
 
