@@ -29,6 +29,7 @@ struct Question {
 }
 
 /// What a filter of this policy and these features makes of a frame with these headers.
+#[tactic(auto, using(crate::proofs::Verdicts::parts_in_turn))]
 pub fn verdict(rows: &[RuleRow], headers: &Headers, policy: Policy, features: u8) -> FilterEnd
     ensures { result ≡ verdict rows.now headers.now policy features }
 {
