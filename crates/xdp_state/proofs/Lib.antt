@@ -1,3 +1,5 @@
+pub mod HitRows
+pub mod HitSums
 pub mod Members
 pub mod Tallies
 pub mod Visits
