@@ -56,3 +56,12 @@ has_place-is ms i mode = ?
 pub room-one : (ms : List Attachment) (m : Attachment) → list_all (λ m. nat_lt m.interface 8) ms ≡ true → ((i : ℕ) → length (members_of ms i) ≤ 10) → m.interface < 8 → length (members_of ms m.interface) < 10 → length ms < 80
 room-one ms m all each known place =
     omega (arith, length-members (ms ++ m ∷ []) (interfaces-push ms m all known) (each-push ms m each place), length-append ms (m ∷ []))
+
+-- a member that leaves, and the room that stays
+pub interfaces-without : (ms : List Attachment) (interface number : ℕ) → list_all (λ m. nat_lt m.interface 8) ms ≡ true → list_all (λ m. nat_lt m.interface 8) (members_without ms interface number) ≡ true
+interfaces-without [] interface number all = refl
+interfaces-without (m ∷ ms) interface number all = grind (arith, nat_tests, interfaces-without ms interface number)
+
+pub each-without : (ms : List Attachment) (interface number i : ℕ) → length (members_of (members_without ms interface number) i) ≤ length (members_of ms i)
+each-without [] interface number i = omega arith
+each-without (m ∷ ms) interface number i = grind (arith, nat_tests, each-without ms interface number i)
