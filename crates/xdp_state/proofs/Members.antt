@@ -42,15 +42,26 @@ pub each-push : (ms : List Attachment) (m : Attachment) → ((i : ℕ) → lengt
 each-push ms m each place i = rw filter-append (rw length-append (grind (arith, nat_tests, each i)))
 
 -- each member is a filter
-all_filters : (k : Kind) → is_filter k ≡ true
+pub all_filters : (k : Kind) → is_filter k ≡ true
 all_filters (Filter policy features) = refl
 
 pub has_filter-is : (ms : List Attachment) → has_filter ms ≡ not (length ms == 0)
 has_filter-is [] = refl
-has_filter-is (m ∷ ms) = rw (all_filters m.kind) refl
+has_filter-is (m ∷ ms) =
+    let filter : is_filter m.kind ≡ true = all_filters m.kind in
+    grind (arith, nat_tests)
 
 pub has_place-is : (ms : List Attachment) (i : ℕ) (mode : Mode) → has_place (members_of ms i) mode ≡ list_all (λ m. not (m.interface == i)) ms
-has_place-is ms i mode = ?
+has_place-is [] i mode = refl
+has_place-is (m ∷ ms) i mode =
+    let filter : is_filter m.kind ≡ true = all_filters m.kind in
+    grind (arith, nat_tests, has_place-is ms i mode)
+
+pub has_place-empty : (there : List Attachment) (mode : Mode) → has_place there mode ≡ true → length there ≡ 0
+has_place-empty [] mode h = refl
+has_place-empty (m ∷ ms) mode h =
+    let filter : is_filter m.kind ≡ true = all_filters m.kind in
+    absurd (grind (arith, nat_tests))
 
 -- where one more member has a place, there is room for it
 pub room-one : (ms : List Attachment) (m : Attachment) → list_all (λ m. nat_lt m.interface 8) ms ≡ true → ((i : ℕ) → length (members_of ms i) ≤ 10) → m.interface < 8 → length (members_of ms m.interface) < 10 → length ms < 80

@@ -2,7 +2,7 @@ ghost use Rattle.std.specs.Prelude.{◌≡◌, ◌≤◌, ◌<◌, ◌==◌, ◌
 ghost use Rattle.std.specs.Option.{option_map};
 ghost use Rattle.xdp_state.specs.Answer.{answer, load_answer, unload_answer, set_answer, clear_answer, rule_fits, lacks_feature};
 ghost use Rattle.xdp_state.specs.Book.{takes};
-ghost use Rattle.xdp_state.specs.Interfaces.{has_name};
+ghost use Rattle.xdp_state.specs.Interfaces.{has_name, interface_named};
 ghost use Rattle.xdp_state.specs.Members.{members_off, has_filter, is_on};
 ghost use Rattle.xdp_state.specs.declared.change.Change.{Change};
 ghost use Rattle.xdp_state.specs.declared.judgement.Judgement.TheVariants.{Accepted};
@@ -64,10 +64,10 @@ fn judge_load(
 ) -> Judgement
     ensures { result ≡ load_answer interfaces.now state.now name.now kind mode }
 {
-    let Some(interface) = named(interfaces.as_slice(), name) else {
+    let interface = place_of(interfaces, name);
+    if interface == interfaces.len() {
         return Judgement::Refused(Reason::NoInterface);
-    };
-    let interface = interface as u32;
+    }
     if filter_on(state.members(), interface).is_some() {
         return Judgement::Refused(Reason::FilterThere);
     }
@@ -84,10 +84,10 @@ fn judge_load(
 fn judge_unload(state: &State, interfaces: &InterfaceList, name: &[u8], keep: bool) -> Judgement
     ensures { result ≡ unload_answer interfaces.now state.now name.now keep }
 {
-    let Some(interface) = named(interfaces.as_slice(), name) else {
+    let interface = place_of(interfaces, name);
+    if interface == interfaces.len() {
         return Judgement::Refused(Reason::NoInterface);
-    };
-    let interface = interface as u32;
+    }
     let Some(number) = filter_on(state.members(), interface) else {
         return Judgement::Refused(Reason::FilterNotThere);
     };
@@ -123,6 +123,14 @@ fn judge_clear(state: &State, key: RuleKey, flags: u8) -> Judgement
         return Judgement::Refused(Reason::NoSuchRule);
     }
     Judgement::Accepted(Change::ClearRule { key, flags })
+}
+
+/// The number of the interface of this name, or how many there are.
+fn place_of(interfaces: &InterfaceList, name: &[u8]) -> u32
+    ensures { result ≡ interface_named interfaces.now name.now }
+{
+    let place = named(interfaces.as_slice(), name);
+    place.unwrap_or(interfaces.len() as usize) as u32
 }
 
 /// The place of the interface of this name.
