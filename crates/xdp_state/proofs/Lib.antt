@@ -1,3 +1,4 @@
+pub mod Counts
 pub mod HitRows
 pub mod HitSums
 pub mod Judging
