@@ -1,11 +1,11 @@
 -- What the questions of a command come to, and that what is accepted is taken.
-use Rattle.std.proofs.Common.{◌≡◌, ℕ, ◌<◌, ◌≤◌, true, false, Bool, not, nat_lt, nat_eq, ◌==◌, ◌&&◌, ◌||◌, List, [], ◌∷◌, length, find, Some, None, refl, sym, ◌∙◌, ap, subst, arith}
+use Rattle.std.proofs.Common.{◌≡◌, ℕ, ◌<◌, ◌≤◌, true, false, Bool, not, nat_lt, nat_le, nat_eq, ◌==◌, ◌&&◌, ◌||◌, List, [], ◌∷◌, length, find, Some, None, refl, sym, ◌∙◌, ap, subst, arith}
 use Rattle.std.specs.List.{list_any, position, position_or_len}
 use Rattle.std.specs.Option.{option_map, unwrap_or, is_some}
 use Rattle.std.proofs.lemmas.Bool.Decides.{nat_tests}
 use Rattle.std.proofs.lemmas.Grind.{common_steps}
 use Rattle.xdp_state.specs.Answer.{answer, first_of, load_answer, unload_answer, set_answer, clear_answer, rule_fits, lacks_feature}
-use Rattle.filter_rules.specs.Rules.{has_row}
+use Rattle.filter_rules.specs.Rules.{has_row, has_rule}
 use Rattle.filter_rules.specs.declared.rule.RuleKey.{RuleKey}
 use Rattle.xdp_state.specs.Book.{Book, takes, fits, has_place, has_own_flags}
 use Rattle.xdp_state.specs.Interfaces.{has_name, is_declared, interface_named}
@@ -14,11 +14,13 @@ use Rattle.xdp_state.specs.declared.attachment.Attachment.{Attachment}
 use Rattle.xdp_state.specs.declared.attachment.Kind.{Kind}
 use Rattle.xdp_state.specs.declared.attachment.Mode.{Mode}
 use Rattle.xdp_state.specs.declared.change.Change.{Change}
+use Rattle.xdp_state.specs.declared.change.Change.TheVariants.{SetRule, ClearRule}
 use Rattle.xdp_state.specs.declared.command.Command.{Command}
 use Rattle.xdp_state.specs.declared.command.Command.TheVariants.{FilterLoad, FilterUnload, FilterRule, FilterStatus}
 use Rattle.xdp_state.specs.declared.interface.Interface.{Interface}
 use Rattle.xdp_state.specs.declared.judgement.Judgement.TheVariants.{Accepted}
 use Rattle.xdp_state.specs.declared.judgement.Reason.{Reason}
+use Rattle.xdp_state.specs.declared.judgement.Reason.TheVariants.{FilterNotThere, FeatureMissing, RulesFull, NoSuchRule}
 use Rattle.xdp_state.proofs.Members.{all_filters}
 
 -- an interface is declared where its place is one of the list
@@ -30,11 +32,16 @@ place-within : {X : Type 0} (p : X → Bool) (xs : List X) → position_or_len p
 place-within p [] = omega arith
 place-within p (x ∷ xs) = grind (arith, common_steps, nat_tests, place-within p xs)
 
-place-declared : {X : Type 0} (p : X → Bool) (xs : List X) → list_any p xs ≡ not (nat_eq (unwrap_or (position p xs) (length xs)) (length xs))
-place-declared p xs = grind (arith, nat_tests, place-any p xs, place-within p xs)
+pub place-none : (interfaces : List Interface) (name : List ℕ) → None ≡ position (has_name name) interfaces → is_declared interfaces name ≡ false
+place-none interfaces name is = grind (arith, nat_tests, place-any (has_name name) interfaces)
 
-pub declared-is : (interfaces : List Interface) (name : List ℕ) → is_declared interfaces name ≡ not (nat_eq (interface_named interfaces name) (length interfaces))
-declared-is interfaces name = place-declared (has_name name) interfaces
+pub place-some : (interfaces : List Interface) (name : List ℕ) (i : ℕ) → Some i ≡ position (has_name name) interfaces → record { any : is_declared interfaces name ≡ true; at : interface_named interfaces name ≡ i }
+place-some interfaces name i is = record {
+  any = grind (arith, nat_tests, place-any (has_name name) interfaces);
+  at = grind (arith, nat_tests);
+}
+
+pub ruleset places = (place-none, place-some)
 
 place-below : {X : Type 0} (p : X → Bool) (xs : List X) → list_any p xs ≡ true → unwrap_or (position p xs) (length xs) < length xs
 place-below p xs any = grind (arith, nat_tests, place-any p xs)
@@ -46,11 +53,11 @@ filter-there (m ∷ ms) i =
     let filter : is_filter m.kind ≡ true = all_filters m.kind in
     grind (arith, nat_tests, filter-there ms i)
 
-pub filter-number : (ms : List Attachment) (i n : ℕ) → Some n ≡ option_map (λ m. m.number) (find (λ m. m.interface == i) ms) → filter_number (members_of ms i) ≡ n
-filter-number [] i n is = absurd cc
-filter-number (m ∷ ms) i n is =
-    let filter : is_filter m.kind ≡ true = all_filters m.kind in
-    grind (arith, nat_tests, filter-number ms i n)
+pub filter-number : (ms : List Attachment) (i : ℕ) (m : Attachment) → Some m ≡ find (λ m. m.interface == i) ms → filter_number (members_of ms i) ≡ m.number
+filter-number [] i m is = absurd cc
+filter-number (x ∷ ms) i m is =
+    let filter : is_filter x.kind ≡ true = all_filters x.kind in
+    grind (arith, nat_tests, filter-number ms i m)
 
 pub filter-elsewhere : (ms : List Attachment) (i : ℕ) → list_any (λ m. not (m.interface == i)) ms ≡ has_filter (members_off ms i)
 filter-elsewhere [] i = refl
@@ -97,13 +104,13 @@ unload-taken interfaces book name keep change count few is =
 
 set-taken : (book : Book) (key : RuleKey) (flags : ℕ) (change : Change) → nat_lt book.count 65536 ≡ true → has_own_flags key flags ≡ true → set_answer book key flags ≡ Accepted change → takes book change ≡ true
 set-taken book key flags change count own is =
-    let h = three-objections _ _ _ _ _ _ _ change is in
+    let h = three-objections (not (has_filter book.members)) (lacks_feature book.members key.kind flags) (not (has_row book.rows key) && nat_le 4096 (length book.rows)) FilterNotThere FeatureMissing RulesFull (SetRule key flags) change is in
     let place : (has_row book.rows key || nat_lt (length book.rows) 4096) ≡ true = grind (arith, nat_tests, h.third) in
     subst (λ change. takes book change ≡ true) h.change (rw (count, own, place) refl)
 
 clear-taken : (book : Book) (key : RuleKey) (flags : ℕ) (change : Change) → nat_lt book.count 65536 ≡ true → has_own_flags key flags ≡ true → clear_answer book key flags ≡ Accepted change → takes book change ≡ true
 clear-taken book key flags change count own is =
-    let h = two-objections _ _ _ _ _ change is in
+    let h = two-objections (not (has_filter book.members)) (not (has_rule book.rows key flags)) FilterNotThere NoSuchRule (ClearRule key flags) change is in
     subst (λ change. takes book change ≡ true) h.change (rw (count, own) refl)
 
 pub answer-taken : (interfaces : List Interface) (book : Book) (command : Command) (change : Change) → rule_fits command ≡ true → book.count < 65536 → length interfaces ≤ 8 → answer interfaces book command ≡ Accepted change → takes book change ≡ true
@@ -116,3 +123,5 @@ answer-taken interfaces book (FilterRule key flags true) change fits room few is
 answer-taken interfaces book (FilterRule key flags false) change fits room few is =
     set-taken book key flags change (grind (arith, nat_tests)) fits is
 answer-taken interfaces book FilterStatus change fits room few is = absurd cc
+
+pub ruleset filters = (filter-there, filter-elsewhere)
