@@ -119,9 +119,9 @@ fn work<F: Files, O: Sink>(
 }
 
 /// How a run ends that performed its script so.
-fn ending_of(result: Result<bool, Stop>) -> Ending
+fn ending_of(performed: Result<bool, Stop>) -> Ending
 {
-    match result {
+    match performed {
         Ok(refused) => Ending::Done { refused },
         Err(Stop::Fault) => Ending::Fault,
         Err(Stop::OutOfMemory) => Ending::OutOfMemory,
