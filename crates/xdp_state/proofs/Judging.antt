@@ -47,11 +47,11 @@ place-below : {X : Type 0} (p : X → Bool) (xs : List X) → list_any p xs ≡ 
 place-below p xs any = grind (arith, nat_tests, place-any p xs)
 
 -- the member of an interface is its filter
-pub filter-there : (ms : List Attachment) (i : ℕ) → has_filter (members_of ms i) ≡ is_some (find (λ m. m.interface == i) ms)
-filter-there [] i = refl
-filter-there (m ∷ ms) i =
+pub filter_there : (ms : List Attachment) (i : ℕ) → has_filter (members_of ms i) ≡ is_some (find (λ m. m.interface == i) ms)
+filter_there [] i = refl
+filter_there (m ∷ ms) i =
     let filter : is_filter m.kind ≡ true = all_filters m.kind in
-    grind (arith, nat_tests, filter-there ms i)
+    grind (arith, nat_tests, filter_there ms i)
 
 pub filter-number : (ms : List Attachment) (i : ℕ) (m : Attachment) → Some m ≡ find (λ m. m.interface == i) ms → filter_number (members_of ms i) ≡ m.number
 filter-number [] i m is = absurd cc
@@ -123,5 +123,3 @@ answer-taken interfaces book (FilterRule key flags true) change fits room few is
 answer-taken interfaces book (FilterRule key flags false) change fits room few is =
     set-taken book key flags change (grind (arith, nat_tests)) fits is
 answer-taken interfaces book FilterStatus change fits room few is = absurd cc
-
-pub ruleset filters = (filter-there, filter-elsewhere)

@@ -81,7 +81,6 @@ fn judge_load(
     })
 }
 
-#[tactic(auto, using(crate::proofs::Judging::filters))]
 fn judge_unload(state: &State, interfaces: &InterfaceList, name: &[u8], keep: bool) -> Judgement
     ensures { result ≡ unload_answer interfaces.now state.now name.now keep }
 {
@@ -152,7 +151,7 @@ fn has_filter(members: &[Attachment]) -> bool
 }
 
 /// The number of the interface's filter.
-#[tactic(auto, using(crate::proofs::Judging::filters))]
+#[tactic(auto, using(crate::proofs::Judging::filter_there))]
 fn filter_on(members: &[Attachment], interface: u32) -> Option<u32>
     ensures there { is_some result ≡ has_filter (members_of members.now interface) }
     ensures number { IfSome result (λ number. number ≡ filter_number (members_of members.now interface)) }

@@ -18,6 +18,6 @@ pub invariant_of-self : goal.invariant_of-self
 invariant_of-self c =
     let few : c.self.inside.count < 65536 = rw (← c.self.view_is) at c.requires in
     elim c.if-clear_rules.branch [
-      then-clear_rules w ↦ rw w.self-inside-is (room-without c.self.inside _ c.args.interface c.args.number c.self.invariant few c.take_off.ensures.members c.take_off.ensures.room refl)
-    | else-clear_rules w ↦ rw w.self-inside-is (room-without c.self.inside _ c.args.interface c.args.number c.self.invariant few c.take_off.ensures.members c.take_off.ensures.room refl)
+      | then-clear_rules w ↦ rw w.self-inside-is (room-without c.self.inside _ c.args.interface c.args.number c.self.invariant few c.take_off.ensures.members c.take_off.ensures.room refl)
+      | else-clear_rules w ↦ rw w.self-inside-is (room-without c.self.inside _ c.args.interface c.args.number c.self.invariant few c.take_off.ensures.members c.take_off.ensures.room refl)
     ]
