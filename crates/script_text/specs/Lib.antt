@@ -2,7 +2,6 @@ pub mod Addresses
 pub mod Frames
 pub mod Handed
 pub mod Names
-pub mod Reading
 pub mod Script
 pub mod Texts
 pub mod Words

@@ -30,6 +30,7 @@ pub fn read_script(alloc: Global, bytes: &[u8]) -> Result<Script, ScriptEnd>
     ensures script { Agrees result (script_of bytes.now) }
     ensures frames { IfOk result (λ script. list_all has_frame script.lines ≡ true) }
     ensures rules { IfOk result (λ script. list_all has_flags script.lines ≡ true) }
+    ensures interfaces { IfOk result (λ script. length script.interfaces ≤ 8) }
     ensures lines { IfOk result (λ script. length script.lines ≤ 65536) }
 {
     Err(ScriptEnd::OutOfMemory)

@@ -31,16 +31,5 @@ count_from book (change ∷ changes) taken =
 pub count_after : (changes : List Change) → AllTaken changes → (after changes).count ≡ length changes
 count_after changes taken = count_from empty changes taken ∙ omega arith
 
-more_from : (book : Book) (changes : List Change) (change : Change) → all_taken_from book changes ≡ true → takes (fold applied book changes) change ≡ true → all_taken_from book (changes ++ change ∷ []) ≡ true
-more_from book [] change taken next = rw next refl
-more_from book (first ∷ changes) change taken next =
-    let h = both (takes book first) (all_taken_from (made book first) changes) taken in
-    let next' : takes (fold applied (made book first) changes) change ≡ true = rw (applied_taken book first h.first) at next in
-    rw h.first (more_from (made book first) changes change h.second next')
-
--- one more change that is taken after the others
-pub taken_more : (changes : List Change) (change : Change) → AllTaken changes → takes (after changes) change ≡ true → AllTaken (changes ++ change ∷ [])
-taken_more changes change taken next = more_from empty changes change taken next
-
 pub after_more : (changes : List Change) (change : Change) → after (changes ++ change ∷ []) ≡ applied (after changes) change
 after_more changes change = fold-append applied empty changes (change ∷ [])

@@ -1,5 +1,5 @@
 -- What the lanes show when a phase has ended.
-use Rattle.std.proofs.Common.{◌≡◌, ℕ, ◌+◌, ◌≤◌, Bool, true, false, List, [], ◌∷◌, ◌++◌, length, map, flat_map, arith, refl, ap, sym, ◌∙◌, Option, Some, None, append-nil, append_assoc, unwrap_or}
+use Rattle.std.proofs.Common.{◌≡◌, ℕ, ◌+◌, ◌≤◌, Bool, true, false, List, [], ◌∷◌, ◌++◌, length, map, flat_map, arith, refl, ap, sym, ◌∙◌, Option, Some, None, append-nil, append_assoc, unwrap_or, ◌<◌, ◌||◌, take, get_or, zero, suc}
 use Rattle.xdp_state.specs.Sums.{Counted, tally_of}
 use Rattle.xdp_tool.specs.Carried.{carried, counted_all}
 use Rattle.xdp_tool.specs.Lanes.{Progress, Shows, ShowAll, at_hand_in, finished, idle, if_traced, lanes_text, needs_from, progress_of, progress_from, traces_of}
@@ -54,3 +54,21 @@ traces_of-processors_trace first (q ∷ queues) [] phase lanes same all = absurd
 traces_of-processors_trace first (q ∷ queues) (b ∷ befores) phase [] same all = absurd all
 traces_of-processors_trace first (q ∷ queues) (b ∷ befores) phase (l ∷ lanes) same all =
     rw (all.0.trace, traces_of-processors_trace (first + 1) queues befores phase lanes (omega (arith, same)) all.1) refl
+
+-- the sums of one lane more
+pub befores-more : (lanes : List Lane) (ps : List Progress) (place : ℕ) (lane : Lane) → place < length lanes → lane ≡ get_or lanes place lane → ShowAll lanes ps → (theirs : List Counted) × (lane.ended ≡ tally_of theirs) × (flat_map (λ (p : Progress). p.before) (take (suc place) ps) ≡ flat_map (λ (p : Progress). p.before) (take place ps) ++ theirs)
+befores-more [] ps place lane below is all = absurd (omega arith)
+befores-more (l ∷ lanes) [] place lane below is all = absurd all
+befores-more (l ∷ lanes) (p ∷ ps) zero lane below is all = (p.before, ap (λ (x : Lane). x.ended) is ∙ all.0.ended, append-nil p.before)
+befores-more (l ∷ lanes) (p ∷ ps) (suc place) lane below is all =
+    let more = befores-more lanes ps place lane (omega arith) is all.1 in
+    (more.0, more.1, ap (λ rest. p.before ++ rest) more.2 ∙ sym (append_assoc p.before _ _))
+
+pub or-false : (b : Bool) → b ≡ (b || false)
+or-false true = refl
+or-false false = refl
+
+-- three pieces, appended one after another
+pub three-pieces : (one two three x y z x' y' z' : List ℕ) → one ≡ x → two ≡ one ++ y → three ≡ two ++ z → x ≡ x' → y ≡ y' → z ≡ z' → three ≡ x' ++ (y' ++ z')
+three-pieces one two three x y z x' y' z' first second third is-x is-y is-z =
+    rw (third, second, first, is-x, is-y, is-z, append_assoc) refl

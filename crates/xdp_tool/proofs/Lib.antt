@@ -5,3 +5,5 @@ pub mod Showing
 pub mod Finishing
 pub mod Standing
 pub mod Running
+pub mod Closing
+pub mod Working

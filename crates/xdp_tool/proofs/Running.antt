@@ -1,6 +1,7 @@
 -- A run, as one phase after another ends.
 use Rattle.std.proofs.Common.{◌≡◌, ℕ, ◌+◌, ◌≤◌, Bool, true, false, ◌||◌, List, [], ◌∷◌, ◌++◌, length, length-append, append-nil, append_assoc, take, Result, Ok, Err, arith, refl, ap, sym, ◌∙◌}
 use Rattle.std.proofs.Math.Seq.{take-length, take-append-add}
+use Rattle.std.specs.Prelude.{if◌then◌else◌}
 use Rattle.std.specs.List.{list_any}
 use Rattle.xio.specs.Prefixes.{AppendsPrefix}
 use Rattle.xdp_state.specs.Sums.{Counted}
@@ -14,7 +15,7 @@ use Rattle.xdp_tool.specs.PhaseEnd.{EndsChoices, EndsText, PutsText}
 use Rattle.xdp_tool.specs.Plan.{Phase, has_refusal, is_refused, needs_of, opened}
 use Rattle.xdp_tool.specs.Queues.{Queue, queues_of}
 use Rattle.xdp_tool.specs.Texts.{nothing_counted, out_text, phase_text, texts_from}
-use Rattle.xdp_tool.specs.Trace.{phase_trace, traced_text, traces_from, traces_if}
+use Rattle.xdp_tool.specs.Trace.{first_line, phase_trace, trace_if, traced_text, traces_from, traces_if}
 use Rattle.xdp_tool.specs.Walked.{Past, Stands, no_past, past_after}
 use Rattle.xdp_tool.specs.declared.perform.Stop.{Stop}
 use Rattle.xdp_tool.specs.declared.perform.Stop.TheVariants.{Fault, OutOfMemory}
@@ -132,3 +133,21 @@ stopped-trace true interfaces done past choices rest old held ran is =
     rw (traces-front (queues_of interfaces) 0 done rest choices ran.covered)
     (length (traces_from (queues_of interfaces) 0 done choices), is ∙ ap (λ t. old ++ t) (sym (take-length (traces_from (queues_of interfaces) 0 done choices))))
 stopped-trace false interfaces done past choices rest old held ran is = (0, is)
+
+-- a whole text was put, or its front
+pub puts-whole : {A : Type 0} (result : Result A Stop) (old new text : List ℕ) → new ≡ old ++ text → PutsText result old new text
+puts-whole (Ok x) old new text whole = whole
+puts-whole (Err e) old new text whole = (length text, whole ∙ ap (λ t. old ++ t) (sym (take-length text)))
+
+pub prefix-whole : (old new text : List ℕ) → new ≡ old ++ text → AppendsPrefix old new text
+prefix-whole old new text whole = (length text, whole ∙ ap (λ t. old ++ t) (sym (take-length text)))
+
+-- a trace is its first line and its phases
+pub trace-split : (traced : Bool) (queues : List Queue) (phases : List Phase) (choices : List (List (List ℕ))) → trace_if traced queues phases choices ≡ (if traced then first_line else []) ++ traces_if traced queues phases choices
+trace-split true queues phases choices = refl
+trace-split false queues phases choices = refl
+
+-- before the first phase has ended the trace has no phase
+pub traces-none : (traced : Bool) (queues : List Queue) (choices : List (List (List ℕ))) (old : List ℕ) → old ≡ old ++ traces_if traced queues [] choices
+traces-none true queues choices old = sym (append-nil old)
+traces-none false queues choices old = sym (append-nil old)

@@ -45,6 +45,15 @@ show-finished (l ∷ lanes) (p ∷ ps) zero lane new below is goes all = (goes p
 show-finished (l ∷ lanes) (p ∷ ps) (suc place) lane new below is goes all =
     rw (add-one) (all.0, rw (add-one) at (show-finished lanes ps place lane new (omega arith) is goes all.1))
 
+-- its counts are the next ones
+pub counts-finished : (lanes : List Lane) (ps : List Progress) (place : ℕ) (lane : Lane) → place < length lanes → lane ≡ slice_index_or lanes place lane → ShowAll lanes (finished_first place ps) → map (λ (p : Progress). p.counts) (take (suc place) ps) ≡ map (λ (p : Progress). p.counts) (take place ps) ++ lane.counts ∷ []
+counts-finished [] ps place lane below is all = absurd (omega arith)
+counts-finished (l ∷ lanes) [] zero lane below is all = absurd all
+counts-finished (l ∷ lanes) [] (suc place) lane below is all = absurd all
+counts-finished (l ∷ lanes) (p ∷ ps) zero lane below is all = ap (λ n. n ∷ []) (sym all.0.counts ∙ ap (λ (x : Lane). x.counts) (sym is))
+counts-finished (l ∷ lanes) (p ∷ ps) (suc place) lane below is all =
+    ap (λ more. p.counts ∷ more) (counts-finished lanes ps place lane (omega arith) is all.1)
+
 -- all are
 pub finished-all : (n : ℕ) (ps : List Progress) → length ps ≤ n → finished_first n ps ≡ map finished ps
 finished-all zero [] all = refl

@@ -36,6 +36,7 @@ pub fn perform<O: Sink, T: Sink>(
     choices: &mut Choices,
 ) -> Result<bool, Stop>
     requires none { choices.old ≡ [] }
+    requires interfaces { length script.now.interfaces ≤ 8 }
     requires lines { length script.now.lines ≤ 65536 }
     requires frames { list_all has_frame script.now.lines ≡ true }
     requires flags { list_all has_flags script.now.lines ≡ true }
@@ -89,6 +90,7 @@ fn work<O: Sink, T: Sink>(
     choices: &mut Choices,
 ) -> Result<bool, Stop>
     requires none { choices.old ≡ [] }
+    requires interfaces { length script.now.interfaces ≤ 8 }
     requires lines { length script.now.lines ≤ 65536 }
     requires frames { list_all has_frame script.now.lines ≡ true }
     requires flags { list_all has_flags script.now.lines ≡ true }
@@ -125,6 +127,7 @@ fn do_line(alloc: Global, walk: &mut Walk<'_>, line: &Line) -> Result<(), Stop>
     requires frame { has_frame line.now ≡ true }
     requires flags { has_flags line.now ≡ true }
     requires room { walk.old.state.count < 65536 }
+    requires interfaces { length walk.old.interfaces.now ≤ 8 }
     ensures stands { (past : Past) (phase : Phase) → Stands walk.old past phase
         → OnOk result (Stands walk.new past (with_what walk.old.interfaces.now line.now.line line.now.what phase)) }
     ensures few { walk.new.state.count ≤ walk.old.state.count + 1 }

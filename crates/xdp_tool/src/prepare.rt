@@ -18,6 +18,7 @@ const SCRIPT_BYTES: u64 = 16_777_216;
 /// The script in the named file.
 pub fn prepare<F: Files>(alloc: Global, files: &mut F, name: &str) -> Result<Script, Ending>
     ensures script { IsTrue F.tells → Prepares result (script_at ((F.told files.old).content name.now)) }
+    ensures interfaces { IfOk result (λ script. length script.interfaces ≤ 8) }
     ensures lines { IfOk result (λ script. length script.lines ≤ 65536) }
     ensures frames { IfOk result (λ script. list_all has_frame script.lines ≡ true) }
     ensures flags { IfOk result (λ script. list_all has_flags script.lines ≡ true) }
@@ -40,6 +41,7 @@ pub fn prepare<F: Files>(alloc: Global, files: &mut F, name: &str) -> Result<Scr
 fn script_in(alloc: Global, bytes: &[u8]) -> Result<Script, Ending>
     requires { length bytes.now ≤ 16777216 }
     ensures script { Prepares result (script_at bytes.now) }
+    ensures interfaces { IfOk result (λ script. length script.interfaces ≤ 8) }
     ensures lines { IfOk result (λ script. length script.lines ≤ 65536) }
     ensures frames { IfOk result (λ script. list_all has_frame script.lines ≡ true) }
     ensures flags { IfOk result (λ script. list_all has_flags script.lines ≡ true) }

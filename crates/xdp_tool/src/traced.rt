@@ -26,6 +26,7 @@ pub fn perform_into<F: Files, O: Sink>(
     choices: &mut Choices,
 ) -> Result<bool, Stop>
     requires none { choices.old ≡ [] }
+    requires interfaces { length script.now.interfaces ≤ 8 }
     requires lines { length script.now.lines ≤ 65536 }
     requires frames { list_all has_frame script.now.lines ≡ true }
     requires flags { list_all has_flags script.now.lines ≡ true }

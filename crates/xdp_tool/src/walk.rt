@@ -1,4 +1,4 @@
-ghost use Rattle.std.specs.Prelude.{◌≡◌, ◌+◌, ◌<◌, ◌≤◌, true, List, [], ◌++◌, map, flat_map, IfOk, OnOk};
+ghost use Rattle.std.specs.Prelude.{◌≡◌, ◌+◌, ◌<◌, ◌≤◌, true, List, [], ◌++◌, length, map, flat_map, IfOk, OnOk};
 ghost use Rattle.script_text.specs.Handed.{has_frame, has_flags, has_frame_size};
 ghost use Rattle.xdp_state.specs.Sums.{tally_of};
 ghost use Rattle.xdp_tool.specs.Lanes.{Progress, ShowAll, idle, advance_from, finished};
@@ -64,6 +64,7 @@ impl<'a> Walk<'a> {
         requires frame { has_frame line.now ≡ true }
         requires flags { has_flags line.now ≡ true }
         requires room { self.old.state.count < 65536 }
+        requires interfaces { length self.old.interfaces.now ≤ 8 }
         ensures stands { (past : Past) (phase : Phase) → Stands self.old past phase
             → OnOk result (Stands self.new past (with_what self.old.interfaces.now line.now.line line.now.what phase)) }
         ensures few { self.new.state.count ≤ self.old.state.count + 1 }
@@ -83,6 +84,7 @@ impl<'a> Walk<'a> {
     fn answer(&mut self, alloc: Global, line: u32, command: &Command) -> Result<(), OutOfMemory>
         requires flags { rule_fits command.now ≡ true }
         requires room { self.old.state.count < 65536 }
+        requires interfaces { length self.old.interfaces.now ≤ 8 }
         ensures stands { (past : Past) (phase : Phase) → Stands self.old past phase → OnOk result (Stands self.new past
             (with_answer line (answer self.old.interfaces.now (after phase.published) command.now) phase)) }
         ensures few { self.new.state.count ≤ self.old.state.count + 1 }
@@ -106,7 +108,8 @@ impl<'a> Walk<'a> {
         ensures same_traced { self.new.traced ≡ self.old.traced }
     {
         self.state.absorb(change);
-        self.print(alloc, line, &Outcome::Ok(self.state.count()))
+        let outcome = Outcome::Ok(self.state.count());
+        self.print(alloc, line, &outcome)
     }
 
     /// Shows the filters, their rules and the sums of the phases that have ended.
@@ -173,9 +176,10 @@ impl<'a> Walk<'a> {
         ensures stands { (past : Past) (phase : Phase) → Stands self.old past phase
             → OnOk result (Stands self.new (past_after self.old.interfaces.now past phase) (opened phase.published)) }
         ensures closed { (past : Past) (phase : Phase) → Stands self.old past phase → IfOk result (λ closed. Closes closed
-            self.old.interfaces.now self.old.traced number past (record phase { barrier = barrier })) }
+            self.old.interfaces.now self.old.traced number past phase barrier) }
         ensures same_state { self.new.state ≡ self.old.state }
         ensures same { self.new.interfaces.now ≡ self.old.interfaces.now }
+        ensures same_refused { self.new.refused ≡ self.old.refused }
         ensures same_traced { self.new.traced ≡ self.old.traced }
     {
         let trace = self.trace(alloc, number, barrier)?;
