@@ -7,3 +7,4 @@ pub mod Standing
 pub mod Running
 pub mod Closing
 pub mod Working
+pub mod OneTrace

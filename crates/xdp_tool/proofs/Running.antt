@@ -151,3 +151,8 @@ trace-split false queues phases choices = refl
 pub traces-none : (traced : Bool) (queues : List Queue) (choices : List (List (List ℕ))) (old : List ℕ) → old ≡ old ++ traces_if traced queues [] choices
 traces-none true queues choices old = sym (append-nil old)
 traces-none false queues choices old = sym (append-nil old)
+
+pub trace-joined : (traced : Bool) (queues : List Queue) (phases : List Phase) (choices : List (List (List ℕ))) (old begun new : List ℕ) → begun ≡ old ++ (if traced then first_line else []) → new ≡ begun ++ traces_if traced queues phases choices → new ≡ old ++ trace_if traced queues phases choices
+trace-joined traced queues phases choices old begun new first rest =
+    rest ∙ ap (λ t. t ++ traces_if traced queues phases choices) first ∙ append_assoc old (if traced then first_line else []) (traces_if traced queues phases choices)
+    ∙ ap (λ t. old ++ t) (sym (trace-split traced queues phases choices))

@@ -13,3 +13,4 @@ pub mod PhaseEnd
 pub mod Outcome
 pub mod Named
 pub mod Headline
+pub mod Run

@@ -14,10 +14,16 @@ abbrev pub is_file_name : List ℕ → Bool
 is_file_name [] = false
 is_file_name (b ∷ bs) = not (b == 45)
 
-unfoldable pub names_in : List (List ℕ) → Result Names Ending
-names_in (script ∷ []) = if is_file_name script then Ok (record { script = script; trace = None }) else Err Usage
-names_in (option ∷ trace ∷ script ∷ []) =
+abbrev pub script_alone : List ℕ → Result Names Ending
+script_alone script = if is_file_name script then Ok (record { script = script; trace = None }) else Err Usage
+
+abbrev pub traced_script : List ℕ → List ℕ → List ℕ → Result Names Ending
+traced_script option trace script =
     if bytes_eq option (codes "--trace") && is_file_name trace && is_file_name script && not (bytes_eq trace script)
     then Ok (record { script = script; trace = Some trace })
     else Err Usage
+
+unfoldable pub names_in : List (List ℕ) → Result Names Ending
+names_in (script ∷ []) = script_alone script
+names_in (option ∷ trace ∷ script ∷ []) = traced_script option trace script
 names_in _ = Err Usage

@@ -13,6 +13,7 @@ pub fn tell<E: Sink>(alloc: Global, err: &mut E, ending: Ending) -> Ending
     ensures same { (result ≡ ending) ⊎ (result ≡ Ending.OutOfMemory) }
     ensures said { IsTrue E.tells
         → AppendsUnless (Rose (E.faults err.old) (E.faults err.new)) (E.held err.old) (E.held err.new) (err_text result) }
+    ensures same_setting { E.setting err.new ≡ E.setting err.old }
 {
     match ending.text(alloc) {
         Ok(text) => {
@@ -28,8 +29,9 @@ pub fn tell<E: Sink>(alloc: Global, err: &mut E, ending: Ending) -> Ending
 
 /// Writes a text, or its front where the sink fails.
 fn say<E: Sink>(err: &mut E, text: &[u8])
-    ensures { IsTrue E.tells
+    ensures said { IsTrue E.tells
         → AppendsUnless (Rose (E.faults err.old) (E.faults err.new)) (E.held err.old) (E.held err.new) text.now }
+    ensures same_setting { E.setting err.new ≡ E.setting err.old }
 {
     let _ = write_all(err, text);
 }

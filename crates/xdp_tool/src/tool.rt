@@ -1,10 +1,18 @@
-ghost use Rattle.std.specs.Prelude.{◌≡◌, ◌⊎◌, ◌++◌, true, false, [], length, IsTrue, IfSome};
+ghost use Rattle.std.specs.Prelude.{◌≡◌, ◌⊎◌, ◌≤◌, ◌++◌, true, false, [], length, IsTrue, IfSome, OnOk, IfOk, Err};
+ghost use Rattle.std.specs.List.{list_all};
+ghost use Rattle.script_text.specs.Handed.{has_frame, has_flags};
 ghost use Rattle.xio.specs.Causes.{Rose};
 ghost use Rattle.xio.specs.Prefixes.{AppendsPrefix, AppendsUnless};
 ghost use Rattle.xdp_tool.specs.Ending.{status_of};
 ghost use Rattle.xdp_tool.specs.Headline.{words_of, is_status, is_decided, is_end, is_whole, IsDecided, IsExplained, IsTraced, IsTracedUpTo, out_of, trace_of, said, asked_names, trace_name, made_name, Touches};
-ghost use Rattle.xdp_tool.specs.Named.{names_of};
-ghost use Rattle.xdp_tool.specs.Outcome.{Cut, Whole, prepared, script_at, ending_after};
+ghost use Rattle.xdp_tool.specs.Legal.{AreLegal};
+ghost use Rattle.xdp_tool.specs.Named.{name_of};
+ghost use Rattle.xdp_tool.specs.Outcome.{Cut, Whole, prepared, ending_after};
+ghost use Rattle.xdp_tool.specs.Plan.{plan, has_refusal};
+ghost use Rattle.xdp_tool.specs.Queues.{queues_of};
+ghost use Rattle.xdp_tool.specs.Run.{ending_of};
+ghost use Rattle.xdp_tool.specs.Texts.{out_text};
+ghost use Rattle.xdp_tool.specs.Trace.{trace_text};
 ghost use Rattle.xdp_tool.specs.Words.{names_in};
 
 use crate::ended::Ended;
@@ -13,7 +21,7 @@ use crate::perform::{Stop, perform};
 use crate::prepare::prepare;
 use crate::tell::tell;
 use crate::traced::perform_into;
-use crate::words::{Named, names_in};
+use crate::words::names_in;
 use script_text::Script;
 use std::alloc::Global;
 use xdp_state::Choices;
@@ -75,10 +83,7 @@ pub fn run_tool<F: Files, O: Sink, E: Sink>(
     ensures same_err { E.setting err.new ≡ E.setting err.old }
 {
     let mut choices = Choices::new(alloc);
-    let ending = match names_in(words) {
-        Ok(named) => run(alloc, &named, files, out, &mut choices),
-        Err(ending) => ending,
-    };
+    let ending = run(alloc, words, files, out, &mut choices);
     let ending = tell(alloc, err, ending);
     Ended {
         status: ending.status(),
@@ -87,19 +92,47 @@ pub fn run_tool<F: Files, O: Sink, E: Sink>(
     }
 }
 
-/// Runs the named script, and answers how the run ends.
+/// Runs the script that the words name, and answers how the run ends.
 fn run<F: Files, O: Sink>(
     alloc: Global,
-    named: &Named<'_>,
+    words: &[String],
     files: &mut F,
     out: &mut O,
     choices: &mut Choices,
 ) -> Ending
+    requires none { choices.old ≡ [] }
+    ensures fault { result ≡ Ending.Fault → Rose (F.read_faults files.old) (F.read_faults files.new)
+        ⊎ Rose (F.write_faults files.old) (F.write_faults files.new)
+        ⊎ Rose (O.faults out.old) (O.faults out.new) }
+    ensures decided { IsTrue F.tells → is_decided (status_of result) ≡ true
+        → result ≡ ending_after (prepared (words_of words.now) (F.told files.old).content) }
+    ensures explained { IsTrue F.tells
+        → IsExplained (prepared (words_of words.now) (F.told files.old).content) (status_of result) choices.new Whole }
+    ensures out_front { IsTrue F.tells → IsTrue O.tells → AppendsPrefix (O.held out.old) (O.held out.new)
+        (out_of (prepared (words_of words.now) (F.told files.old).content) Whole choices.new) }
+    ensures out_whole { IsTrue F.tells → IsTrue O.tells → is_decided (status_of result) ≡ true → O.held out.new
+        ≡ O.held out.old ++ out_of (prepared (words_of words.now) (F.told files.old).content) Whole choices.new }
+    ensures flushed { IsTrue O.tells → is_end (status_of result) ≡ true → O.flushed out.new ≡ length (O.held out.new) }
+    ensures trace_front { IsTrue F.tells → IfSome (trace_name (names_in (words_of words.now)))
+        (IsTracedUpTo (F.told files.old) (F.told files.new)
+        (trace_of (prepared (words_of words.now) (F.told files.old).content) Whole choices.new)) }
+    ensures trace_whole { IsTrue F.tells → is_end (status_of result) ≡ true
+        → IfSome (trace_name (names_in (words_of words.now))) (IsTraced (F.told files.new)
+        (trace_of (prepared (words_of words.now) (F.told files.old).content) Whole choices.new)) }
+    ensures touched { IsTrue F.tells → Touches (F.told files.old) (F.told files.new)
+        (asked_names (names_in (words_of words.now))) (made_name (names_in (words_of words.now)) (status_of result)) }
+    ensures same_handles { F.handles files.new ≡ F.handles files.old }
+    ensures same_out { O.setting out.new ≡ O.setting out.old }
 {
-    match prepare(alloc, files, named.script) {
-        Ok(script) => ending_of(work(alloc, &script, named.trace, files, out, choices)),
-        Err(ending) => ending,
-    }
+    let named = match names_in(words) {
+        Ok(named) => named,
+        Err(ending) => return ending,
+    };
+    let script = match prepare(alloc, files, named.script) {
+        Ok(script) => script,
+        Err(ending) => return ending,
+    };
+    ending_of(work(alloc, &script, named.trace, files, out, choices))
 }
 
 /// Performs a script, with its trace in the named file where there is a name.
@@ -111,6 +144,29 @@ fn work<F: Files, O: Sink>(
     out: &mut O,
     choices: &mut Choices,
 ) -> Result<bool, Stop>
+    requires none { choices.old ≡ [] }
+    requires interfaces { length script.now.interfaces ≤ 8 }
+    requires lines { length script.now.lines ≤ 65536 }
+    requires frames { list_all has_frame script.now.lines ≡ true }
+    requires flags { list_all has_flags script.now.lines ≡ true }
+    ensures legal { AreLegal (queues_of script.now.interfaces) (plan script.now) choices.new }
+    ensures covered { OnOk result (length choices.new ≡ length (plan script.now)) }
+    ensures refused { IfOk result (λ refused. refused ≡ has_refusal (plan script.now)) }
+    ensures out_front { IsTrue O.tells → AppendsPrefix (O.held out.old) (O.held out.new)
+        (out_text script.now.interfaces (plan script.now) choices.new) }
+    ensures out_whole { IsTrue O.tells → OnOk result (O.held out.new
+        ≡ O.held out.old ++ out_text script.now.interfaces (plan script.now) choices.new) }
+    ensures out_flushed { IsTrue O.tells → OnOk result (O.flushed out.new ≡ length (O.held out.new)) }
+    ensures trace_front { IsTrue F.tells → IfSome (name_of trace.entry) (IsTracedUpTo (F.told files.old) (F.told files.new)
+        (trace_text (queues_of script.now.interfaces) (plan script.now) choices.new)) }
+    ensures trace_whole { IsTrue F.tells → OnOk result (IfSome (name_of trace.entry) (IsTraced (F.told files.new)
+        (trace_text (queues_of script.now.interfaces) (plan script.now) choices.new))) }
+    ensures touched { IsTrue F.tells → Touches (F.told files.old) (F.told files.new) [] (name_of trace.entry) }
+    ensures same_handles { F.handles files.new ≡ F.handles files.old }
+    ensures fault { result ≡ Err Stop.Fault
+        → Rose (O.faults out.old) (O.faults out.new) ⊎ Rose (F.write_faults files.old) (F.write_faults files.new) }
+    ensures same_read_faults { F.read_faults files.new ≡ F.read_faults files.old }
+    ensures same_out { O.setting out.new ≡ O.setting out.old }
 {
     match trace {
         Some(name) => perform_into(alloc, script, files, name, out, choices),
@@ -120,6 +176,7 @@ fn work<F: Files, O: Sink>(
 
 /// How a run ends that performed its script so.
 fn ending_of(performed: Result<bool, Stop>) -> Ending
+    ensures { result ≡ ending_of performed }
 {
     match performed {
         Ok(refused) => Ending::Done { refused },

@@ -1,8 +1,8 @@
-use Rattle.std.proofs.Common.{◌≡◌, ◌++◌, ap, ◌∙◌, append_assoc}
+use Rattle.std.proofs.Common.{◌≡◌, ◌∙◌}
 use Rattle.xio.proofs.PrefixLemmas.{prefix_more, prefix_of_front}
 use Rattle.xdp_tool.specs.Plan.{plan}
 use Rattle.xdp_tool.specs.Queues.{queues_of}
-use Rattle.xdp_tool.proofs.Running.{prefix-whole, trace-split}
+use Rattle.xdp_tool.proofs.Running.{prefix-whole, trace-joined, trace-split}
 use Rattle.xdp_tool.proofs.perform.perform.Goals as goal
 
 pub returns-in_err-start_trace-clause-trace_front : goal.returns-in_err-start_trace-clause-trace_front
@@ -21,9 +21,7 @@ returns-in_err-settle-clause-out_front g c = λ tells.
 
 pub returns-in_err-settle-clause-trace_front : goal.returns-in_err-settle-clause-trace_front
 returns-in_err-settle-clause-trace_front g c = λ tells.
-    rw (trace-split c.args.traced (queues_of c.args.script.now.interfaces) (plan c.args.script.now) c.work.new.choices)
-    (prefix-whole _ _ _ (c.in_ok-refused.ensures.trace tells
-    ∙ (ap (λ t. t ++ _) (c.in_ok-start_trace.ensures.text tells) ∙ append_assoc _ _ _)))
+    prefix-whole _ _ _ (trace-joined c.args.traced (queues_of c.args.script.now.interfaces) (plan c.args.script.now) c.work.new.choices _ _ _ (c.in_ok-start_trace.ensures.text tells) (c.in_ok-refused.ensures.trace tells))
 
 pub returns-in_err-settle-2-clause-out_front : goal.returns-in_err-settle-2-clause-out_front
 returns-in_err-settle-2-clause-out_front g c = λ tells.
@@ -31,9 +29,8 @@ returns-in_err-settle-2-clause-out_front g c = λ tells.
 
 pub returns-in_err-settle-2-clause-trace_front : goal.returns-in_err-settle-2-clause-trace_front
 returns-in_err-settle-2-clause-trace_front g c = λ tells.
-    rw (trace-split c.args.traced (queues_of c.args.script.now.interfaces) (plan c.args.script.now) c.work.new.choices)
-    (prefix-whole _ _ _ (c.settle-2.ensures.same tells ∙ (c.in_ok-refused.ensures.trace tells
-    ∙ (ap (λ t. t ++ _) (c.in_ok-start_trace.ensures.text tells) ∙ append_assoc _ _ _))))
+    prefix-whole _ _ _ (c.settle-2.ensures.same tells
+    ∙ trace-joined c.args.traced (queues_of c.args.script.now.interfaces) (plan c.args.script.now) c.work.new.choices _ _ _ (c.in_ok-start_trace.ensures.text tells) (c.in_ok-refused.ensures.trace tells))
 
 pub returns-clause-out_front : goal.returns-clause-out_front
 returns-clause-out_front g c = λ tells.
@@ -41,6 +38,5 @@ returns-clause-out_front g c = λ tells.
 
 pub returns-clause-trace_front : goal.returns-clause-trace_front
 returns-clause-trace_front g c = λ tells.
-    rw (trace-split c.args.traced (queues_of c.args.script.now.interfaces) (plan c.args.script.now) c.work.new.choices)
-    (prefix-whole _ _ _ (c.settle-2.ensures.same tells ∙ (c.in_ok-refused.ensures.trace tells
-    ∙ (ap (λ t. t ++ _) (c.in_ok-start_trace.ensures.text tells) ∙ append_assoc _ _ _))))
+    prefix-whole _ _ _ (c.settle-2.ensures.same tells
+    ∙ trace-joined c.args.traced (queues_of c.args.script.now.interfaces) (plan c.args.script.now) c.work.new.choices _ _ _ (c.in_ok-start_trace.ensures.text tells) (c.in_ok-refused.ensures.trace tells))
