@@ -61,8 +61,12 @@ impl MemoryFiles {
           content = set_named (told_by self.old).content name.now bytes.now;
           flushed = set_named (told_by self.old).flushed name.now 0;
         }) }
+        ensures there { OnOk result (has_file self.new ≡ set_named (has_file self.old) name.now true) }
         ensures err { OnErr result (told_by self.new ≡ told_by self.old) }
+        ensures err_files { OnErr result (has_file self.new ≡ has_file self.old) }
         ensures same_handles { handles_of self.new ≡ handles_of self.old }
+        ensures same_read_faults { ⟦<MemoryFiles as Files>⟧.read_faults self.new ≡ ⟦<MemoryFiles as Files>⟧.read_faults self.old }
+        ensures same_write_faults { ⟦<MemoryFiles as Files>⟧.write_faults self.new ≡ ⟦<MemoryFiles as Files>⟧.write_faults self.old }
     {
         let file = StoredFile::holding(self.alloc, name, bytes, bad_place)?;
         self.shelf.reserve()?;
