@@ -16,3 +16,9 @@ handles_of files = handle_at files.numbers.entries.items
 -- whether a file has the name
 abbrev pub has_file : MemoryFiles → List ℕ → Bool
 has_file files = is_there files.shelf.files.items
+
+abbrev pub read_faults_of : MemoryFiles → ℕ
+read_faults_of files = files.read_faults
+
+abbrev pub write_faults_of : MemoryFiles → ℕ
+write_faults_of files = files.write_faults
