@@ -1,9 +1,14 @@
 -- One file that is opened, read and closed: what its reads as a source say of the object of files.
-use Rattle.std.proofs.Common.{◌≡◌, ◌≢◌, ℕ, ◌+◌, List, [], length, Result, Ok, Err, refl, sym, ◌∙◌, ap, subst, inr, arith}
+use Rattle.std.proofs.Common.{◌≡◌, ◌≢◌, ℕ, ◌+◌, List, [], ◌++◌, length, take, Result, Ok, Err, refl, sym, ◌∙◌, ap, subst, inr, arith}
+use Rattle.std.proofs.lemmas.Grind.{common_steps}
+use Rattle.std.proofs.Math.Seq.{take-append_seam}
+use Rattle.std.proofs.lemmas.List.{length-append}
 use Rattle.xio.specs.Handles.{Handle, Closed, set_at}
 use Rattle.xio.specs.Streams.{ReadsAll}
 use Rattle.xio.specs.Told.{Told, rest_of, after_open, taken_whole}
-use Rattle.xio.specs.ReadFile.{ReadsFile, AsksFor, AsksFile}
+use Rattle.xio.specs.ReadFile.{ReadsFile, AsksFor, AsksFile, UpToFault, end_of}
+use Rattle.xio.specs.declared.files.FileFault.{FileFault}
+use Rattle.xio.specs.declared.files.FileFault.TheVariants as fault
 use Rattle.xio.specs.declared.read_end.ReadEnd.{ReadEnd}
 use Rattle.xio.specs.declared.read_end.ReadEnd.TheVariants.{ReadFault, TooLarge, OutOfMemory}
 use Rattle.xio.proofs.PrefixLemmas.{prefix_front}
@@ -46,10 +51,10 @@ asks_for handles t t' name n closed same = record {
   calls = λ m held. ap (λ (u : Told). u.call_of m) same ∙ set_at-other t.call_of n (length t.asked) m (λ e. held (ap handles e ∙ closed));
 }
 
--- the place at the file's end
-place-at_end : (t t' : Told) (name : List ℕ) (n : ℕ) → taken_whole t' n ≡ taken_whole (after_open t name (Ok n)) n
-    → rest_of t' n ≡ [] → t'.places (length t.asked) ≡ length (t.content name)
-place-at_end t t' name n same ended =
+-- the place, and what is left behind it
+place-left : (t t' : Told) (name : List ℕ) (n : ℕ) → taken_whole t' n ≡ taken_whole (after_open t name (Ok n)) n
+    → t'.places (length t.asked) + length (rest_of t' n) ≡ length (t.content name)
+place-left t t' name n same =
     let opened = after_open t name (Ok n) in
     let k = length t.asked in
     let at : t'.call_of n ≡ k = call_of-read t t' name n same in
@@ -58,8 +63,29 @@ place-at_end t t' name n same ended =
     sym (set_at-same t'.places (t'.call_of n) _) ∙ ap (λ (u : Told). u.places (t'.call_of n)) same
     ∙ set_at-at opened.places (opened.call_of n) _ (t'.call_of n) (at ∙ sym own) in
     let first : opened.places (opened.call_of n) ≡ 0 = set_at-at t.places k 0 (opened.call_of n) own in
+    ap (λ p. p + length (rest_of t' n)) (ap t'.places (sym at)) ∙ omega (arith, ap length (rest_of-after_open t name n))
+
+-- the place at the file's end
+place-at_end : (t t' : Told) (name : List ℕ) (n : ℕ) → taken_whole t' n ≡ taken_whole (after_open t name (Ok n)) n
+    → rest_of t' n ≡ [] → t'.places (length t.asked) ≡ length (t.content name)
+place-at_end t t' name n same ended =
     let none : length (rest_of t' n) ≡ 0 = ap length ended in
-    ap t'.places (sym at) ∙ omega (arith, ap length (rest_of-after_open t name n))
+    omega (arith, place-left t t' name n same)
+
+-- what was taken from the file's front is what stands before the place
+taken-place : (content taken rest : List ℕ) (place : ℕ) → content ≡ taken ++ rest → place + length rest ≡ length content → taken ≡ take place content
+taken-place content taken rest place left reach =
+    let counted : length content ≡ length taken + length rest = simp length-append at (ap length left) in
+    let same : length taken ≡ place = omega arith in
+    sym (take-append_seam taken rest) ∙ ap (λ xs. take (length taken) xs) (sym left) ∙ ap (λ m. take m content) same
+
+faults_file : (t t' : Told) (name : List ℕ) (n limit : ℕ) (into into' : List ℕ) (result : Result Unit ReadEnd) → taken_whole t' n ≡ taken_whole (after_open t name (Ok n)) n
+    → ReadsAll limit (t.content name) (rest_of t' n) into into' result → UpToFault t t' name into into' result
+faults_file t t' name n limit into into' (Ok _) same _ = tt
+faults_file t t' name n limit into into' (Err ReadFault) same moves =
+    moves.put ∙ ap (λ xs. into ++ xs) (taken-place (t.content name) moves.taken (rest_of t' n) _ moves.left (place-left t t' name n same))
+faults_file t t' name n limit into into' (Err (TooLarge _)) same _ = tt
+faults_file t t' name n limit into into' (Err OutOfMemory) same _ = tt
 
 asks_file : (handles : ℕ → Handle) (t t' : Told) (name : List ℕ) (n limit : ℕ) (into into' : List ℕ) (result : Result Unit ReadEnd) → handles n ≡ Closed
     → taken_whole t' n ≡ taken_whole (after_open t name (Ok n)) n → ReadsAll limit (t.content name) (rest_of t' n) into into' result → AsksFile handles t t' name result
@@ -83,3 +109,18 @@ pub asks_opened : (handles : ℕ → Handle) (t t₁ t₂ t₃ : Told) (name : L
 asks_opened handles t t₁ t₂ t₃ name n limit into into' result closed opened same last reads =
     rw last (asks_file handles t t₂ name n limit into into' result closed (same ∙ ap (λ (u : Told). taken_whole u n) opened)
     (rw (first_rest t t₁ name n opened) at reads))
+
+pub faults_opened : (t t₁ t₂ t₃ : Told) (name : List ℕ) (n limit : ℕ) (into into' : List ℕ) (result : Result Unit ReadEnd)
+    → t₁ ≡ after_open t name (Ok n) → taken_whole t₂ n ≡ taken_whole t₁ n → t₃ ≡ t₂
+    → ReadsAll limit (rest_of t₁ n) (rest_of t₂ n) into into' result → UpToFault t t₃ name into into' result
+faults_opened t t₁ t₂ t₃ name n limit into into' result opened same last reads =
+    rw last (faults_file t t₂ name n limit into into' result (same ∙ ap (λ (u : Told). taken_whole u n) opened) (rw (first_rest t t₁ name n opened) at reads))
+
+-- a file that was not opened is taken up to its first byte
+pub faults_unopened : (t t' : Told) (name into : List ℕ) (e : FileFault) → t' ≡ after_open t name (Err e) → UpToFault t t' name into into (Err (end_of e))
+faults_unopened t t' name into fault.Failed unopened =
+    let first : t'.places (length t.asked) ≡ 0 = ap (λ (u : Told). u.places (length t.asked)) unopened ∙ set_at-same t.places (length t.asked) 0 in
+    rw first (grind (arith, common_steps))
+faults_unopened t t' name into fault.OutOfMemory unopened = tt
+
+pub ruleset one_file = (reads_opened, asks_opened, faults_opened, faults_unopened)

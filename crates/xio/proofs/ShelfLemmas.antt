@@ -1,5 +1,5 @@
 -- The named file, once its place on the shelf is known.
-use Rattle.std.proofs.Common.{◌≡◌, ◌≢◌, ℕ, ◌<◌, ◌⊎◌, nat_eq, nat_lt, Bool, true, false, cond, List, [], ◌∷◌, ◌++◌, length, get_or, Some, None, refl, sym, subst, ◌∙◌, ap, inl, inr, arith, zero, suc, is_some}
+use Rattle.std.proofs.Common.{◌≡◌, ◌≢◌, ℕ, ◌<◌, ◌⊎◌, nat_eq, nat_lt, Bool, true, false, cond, List, [], ◌∷◌, ◌++◌, length, get_or, Some, None, refl, sym, subst, ◌∙◌, ap, inl, inr, arith, zero, suc}
 use Rattle.std.proofs.Math.ListN.{set}
 use Rattle.std.specs.Prelude.{find, position, slice_get}
 use Rattle.std.specs.Bool.{Decides}
@@ -13,7 +13,7 @@ use Rattle.std.proofs.lemmas.Option.{slice_get-get_or, slice_get_past}
 use Rattle.std.proofs.lemmas.Slice.Eq.{bytes_eq-Decides}
 use mathlib.Core.Path.{fun_ext}
 use Rattle.xio.specs.Told.{set_named}
-use Rattle.xio.specs.Shelf.{has_name, file_named, part_of}
+use Rattle.xio.specs.Shelf.{has_name, part_of}
 use Rattle.xio.specs.declared.memory.stored_file.StoredFile.{StoredFile}
 
 -- a place was found
@@ -137,11 +137,4 @@ part_of-kept part none files name i old new e at same kept =
     part_of-changed part none files name i old new e at same
     ∙ sym (set_named-own (part_of part none files) name (part new) (part_of-reached part none files name i old e at ∙ sym kept))
 
--- the named file is there
-pub is_some-found : (files : List StoredFile) (name : List ℕ) (i : ℕ) (d : StoredFile) → position (has_name name) files ≡ Some i → is_some (file_named files name) ≡ true
-is_some-found files name i d e = rw (find-position (has_name name) files i d e) refl
-
-pub is_some-missing : (files : List StoredFile) (name : List ℕ) → position (has_name name) files ≡ None → is_some (file_named files name) ≡ false
-is_some-missing files name e = rw (find-no_position (has_name name) files e) refl
-
-pub ruleset shelf_rules = (part_of-found, part_of-missing, is_some-found, is_some-missing)
+pub ruleset shelf_rules = (part_of-found, part_of-missing)

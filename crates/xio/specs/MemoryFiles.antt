@@ -1,9 +1,9 @@
 -- What files in memory tell: everything.
-use Rattle.std.specs.Prelude.{ℕ, Bool, List, is_some}
+use Rattle.std.specs.Prelude.{ℕ, Bool, List}
 use Rattle.xio.specs.Handles.{Handle}
 use Rattle.xio.specs.Told.{Told}
 use Rattle.xio.specs.InMemory.{told_from}
-use Rattle.xio.specs.Shelf.{file_named}
+use Rattle.xio.specs.Shelf.{is_there}
 use Rattle.xio.specs.Numbers.{handle_at}
 use Rattle.xio.specs.declared.memory.files.MemoryFiles.{MemoryFiles}
 
@@ -15,4 +15,10 @@ handles_of files = handle_at files.numbers.entries.items
 
 -- whether a file has the name
 abbrev pub has_file : MemoryFiles → List ℕ → Bool
-has_file files name = is_some (file_named files.shelf.files.items name)
+has_file files = is_there files.shelf.files.items
+
+abbrev pub read_faults_of : MemoryFiles → ℕ
+read_faults_of files = files.read_faults
+
+abbrev pub write_faults_of : MemoryFiles → ℕ
+write_faults_of files = files.write_faults

@@ -1,5 +1,5 @@
 -- What a named file that is opened, read to its end and closed again leaves.
-use Rattle.std.specs.Prelude.{◌≡◌, ◌≢◌, ℕ, ◌<◌, ◌≤◌, ◌⊎◌, List, [], ◌∷◌, ◌++◌, length, Result, Ok, Err}
+use Rattle.std.specs.Prelude.{◌≡◌, ◌≢◌, ℕ, ◌<◌, ◌≤◌, ◌⊎◌, List, [], ◌∷◌, ◌++◌, length, take, Result, Ok, Err}
 use Rattle.xio.specs.Handles.{Handle, Closed, set_at}
 use Rattle.xio.specs.Prefixes.{AppendsPrefix}
 use Rattle.xio.specs.Told.{Told}
@@ -37,3 +37,8 @@ AsksFile handles old new name (Ok _) = AsksFor handles old new name (length (old
 AsksFile handles old new name (Err ReadFault) = (place : ℕ) × AsksFor handles old new name place
 AsksFile handles old new name (Err (TooLarge _)) = (place : ℕ) × AsksFor handles old new name place
 AsksFile handles old new name (Err OutOfMemory) = (new ≡ old) ⊎ ((place : ℕ) × AsksFor handles old new name place)
+
+-- at a read fault what was appended is what the file has up to the place of this call
+abbrev pub UpToFault : Told → Told → List ℕ → List ℕ → List ℕ → Result Unit ReadEnd → Type 0
+UpToFault old new name into into' (Err ReadFault) = into' ≡ into ++ take (new.places (length old.asked)) (old.content name)
+UpToFault old new name into into' _ = Unit {0}

@@ -1,9 +1,9 @@
 -- What steady files keep: all that files may tell, but that a made file stays empty.
-use Rattle.std.specs.Prelude.{ℕ, Bool, List, is_some}
+use Rattle.std.specs.Prelude.{ℕ, Bool, List}
 use Rattle.xio.specs.Handles.{Handle}
 use Rattle.xio.specs.Told.{Told}
 use Rattle.xio.specs.InMemory.{told_from}
-use Rattle.xio.specs.Shelf.{file_named}
+use Rattle.xio.specs.Shelf.{is_there}
 use Rattle.xio.specs.Numbers.{handle_at}
 use Rattle.xio.specs.declared.memory.steady_files.SteadyFiles.{SteadyFiles}
 
@@ -15,4 +15,4 @@ handles_of files = handle_at files.numbers.entries.items
 
 -- whether a file has the name
 abbrev pub has_file : SteadyFiles → List ℕ → Bool
-has_file files name = is_some (file_named files.shelf.files.items name)
+has_file files = is_there files.shelf.files.items

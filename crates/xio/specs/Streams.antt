@@ -25,6 +25,13 @@ ReadsAll limit rest rest' into into' (Err ReadFault) = Moves rest rest' into int
 ReadsAll limit rest rest' into into' (Err (TooLarge n)) = (n ≡ limit) × (limit < length rest) × AppendsPrefix into into' rest
 ReadsAll limit rest rest' into into' (Err OutOfMemory) = AppendsPrefix into into' rest
 
+-- the front of the rest was taken, at most so many bytes, and no more than that front stands behind what was there
+pub record Takes (most : ℕ) (rest rest' into into' : List ℕ) : Type 0 where
+  pub taken : List ℕ
+  pub within : length taken ≤ most
+  pub left : rest ≡ taken ++ rest'
+  pub put : AppendsPrefix into into' taken
+
 -- only the limit that was given is named
 abbrev pub NamesLimit : ℕ → Result Unit ReadEnd → Type 0
 NamesLimit limit (Err (TooLarge n)) = n ≡ limit

@@ -1,6 +1,6 @@
 ghost use Rattle.std.specs.Prelude.{◌≡◌, IsTrue};
 ghost use Rattle.xio.specs.Causes.{HasReadCause};
-ghost use Rattle.xio.specs.ReadFile.{ReadsFile, AsksFile};
+ghost use Rattle.xio.specs.ReadFile.{ReadsFile, AsksFile, UpToFault};
 ghost use Rattle.xio.specs.Streams.{NamesLimit, Grows};
 
 use crate::file_source::FileSource;
@@ -11,7 +11,7 @@ use lists::Bytes;
 
 /// Opens the named file, appends its content, which is at most `limit` bytes, and closes it.
 /// A fault in opening is a read fault.
-#[tactic(auto, using(crate::proofs::OneFile::reads_opened, crate::proofs::OneFile::asks_opened))]
+#[tactic(auto, using(crate::proofs::OneFile::one_file))]
 pub fn read_file<F: Files>(
     files: &mut F,
     name: &str,
@@ -20,6 +20,7 @@ pub fn read_file<F: Files>(
 ) -> Result<(), ReadEnd>
     ensures bytes { IsTrue F.tells → ReadsFile limit ((F.told files.old).content name.now) into.old into.new result }
     ensures asked { IsTrue F.tells → AsksFile (F.handles files.old) (F.told files.old) (F.told files.new) name.now result }
+    ensures up_to_fault { IsTrue F.tells → UpToFault (F.told files.old) (F.told files.new) name.now into.old into.new result }
     ensures limit_named { NamesLimit limit result }
     ensures kept { Grows limit into.old into.new }
     ensures cause { HasReadCause (F.read_faults files.old) (F.read_faults files.new) result }

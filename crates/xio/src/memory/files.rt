@@ -1,6 +1,8 @@
-ghost use Rattle.std.specs.Prelude.{◌≡◌, ◌↔◌, true, false, IsTrue, IsSome, IfOk, IfSome, OnOk, OnErr};
-ghost use Rattle.xio.specs.Handles.{Closed};
-ghost use Rattle.xio.specs.Told.{set_named, told_none};
+ghost use Rattle.std.specs.Prelude.{◌≡◌, ◌≢◌, ◌<◌, ◌≤◌, ◌↔◌, true, false, length, IsTrue, IsSome, IfOk, IfSome, OnOk, OnErr};
+ghost use Rattle.xio.specs.Causes.{HasCause, HasFileCause};
+ghost use Rattle.xio.specs.Handles.{Closed, Opened, Made, GivesHandle, set_at};
+ghost use Rattle.xio.specs.Streams.{ReadsFrom};
+ghost use Rattle.xio.specs.Told.{set_named, told_none, rest_of, after_open, after_make, after_read, after_write, after_flush};
 
 use crate::failed::Failed;
 use crate::files::{FileFault, Files};
@@ -61,8 +63,12 @@ impl MemoryFiles {
           content = set_named (told_by self.old).content name.now bytes.now;
           flushed = set_named (told_by self.old).flushed name.now 0;
         }) }
+        ensures there { OnOk result (has_file self.new ≡ set_named (has_file self.old) name.now true) }
         ensures err { OnErr result (told_by self.new ≡ told_by self.old) }
+        ensures err_files { OnErr result (has_file self.new ≡ has_file self.old) }
         ensures same_handles { handles_of self.new ≡ handles_of self.old }
+        ensures same_read_faults { ⟦<MemoryFiles as Files>⟧.read_faults self.new ≡ ⟦<MemoryFiles as Files>⟧.read_faults self.old }
+        ensures same_write_faults { ⟦<MemoryFiles as Files>⟧.write_faults self.new ≡ ⟦<MemoryFiles as Files>⟧.write_faults self.old }
     {
         let file = StoredFile::holding(self.alloc, name, bytes, bad_place)?;
         self.shelf.reserve()?;
@@ -79,7 +85,7 @@ impl MemoryFiles {
 }
 
 impl Files for MemoryFiles {
-    ghost use Rattle.xio.specs.MemoryFiles.{told_by, handles_of};
+    ghost use Rattle.xio.specs.MemoryFiles.{told_by, handles_of, has_file, read_faults_of, write_faults_of};
 
     ghost tells = { true };
 
@@ -87,11 +93,17 @@ impl Files for MemoryFiles {
 
     ghost handles = { handles_of };
 
-    ghost read_faults = { λ files. files.read_faults };
+    ghost read_faults = { read_faults_of };
 
-    ghost write_faults = { λ files. files.write_faults };
+    ghost write_faults = { write_faults_of };
 
-    fn open_file(&mut self, name: &str) -> Result<u32, FileFault> {
+    fn open_file(&mut self, name: &str) -> Result<u32, FileFault>
+        ensures handle { GivesHandle Opened (handles_of self.old) (handles_of self.new) result }
+        ensures told_after { told_by self.new ≡ after_open (told_by self.old) name.now result }
+        ensures cause { HasFileCause (read_faults_of self.old) (read_faults_of self.new) result }
+        ensures same_write_faults { write_faults_of self.new ≡ write_faults_of self.old }
+        ensures same_files { has_file self.new ≡ has_file self.old }
+    {
         let fails = self.calls.next_fails() || self.shelf.content(name.as_bytes()).is_none();
         let asked = copy_of(self.alloc, name.as_bytes())?;
         let own_name = copy_of(self.alloc, name.as_bytes())?;
@@ -104,7 +116,14 @@ impl Files for MemoryFiles {
         Ok(self.numbers.open(own_name, asked))
     }
 
-    fn make_file(&mut self, name: &str) -> Result<u32, FileFault> {
+    fn make_file(&mut self, name: &str) -> Result<u32, FileFault>
+        ensures handle { GivesHandle Made (handles_of self.old) (handles_of self.new) result }
+        ensures told_after { told_by self.new ≡ after_make (told_by self.old) name.now result }
+        ensures cause { HasFileCause (write_faults_of self.old) (write_faults_of self.new) result }
+        ensures same_read_faults { read_faults_of self.new ≡ read_faults_of self.old }
+        ensures there { OnOk result (has_file self.new ≡ set_named (has_file self.old) name.now true) }
+        ensures err_files { OnErr result (has_file self.new ≡ has_file self.old) }
+    {
         if self.calls.next_fails() {
             self.write_faults = self.write_faults.saturating_add(1);
             return Err(FileFault::Failed);
@@ -122,7 +141,16 @@ impl Files for MemoryFiles {
         Ok(self.numbers.make(own_name))
     }
 
-    fn read(&mut self, file: u32, buffer: &mut [u8]) -> Result<usize, Failed> {
+    fn read(&mut self, file: u32, buffer: &mut [u8]) -> Result<usize, Failed>
+        requires { handles_of self.old file ≡ Opened }
+        ensures within { IfOk result (λ n. n ≤ length buffer.new) }
+        ensures bytes { ReadsFrom (rest_of (told_by self.old) file) (rest_of (told_by self.new) file) result buffer.new }
+        ensures told_after { told_by self.new ≡ after_read (told_by self.old) file result }
+        ensures same_handles { handles_of self.new ≡ handles_of self.old }
+        ensures cause { HasCause (read_faults_of self.old) (read_faults_of self.new) result }
+        ensures same_write_faults { write_faults_of self.new ≡ write_faults_of self.old }
+        ensures same_files { has_file self.new ≡ has_file self.old }
+    {
         if self.calls.next_fails() {
             self.read_faults = self.read_faults.saturating_add(1);
             return Err(Failed);
@@ -143,7 +171,16 @@ impl Files for MemoryFiles {
         }
     }
 
-    fn write(&mut self, file: u32, piece: &[u8]) -> Result<usize, Failed> {
+    fn write(&mut self, file: u32, piece: &[u8]) -> Result<usize, Failed>
+        requires { handles_of self.old file ≡ Made }
+        ensures within { IfOk result (λ n. n ≤ length piece.now) }
+        ensures some { IfOk result (λ n. 0 < length piece.now → 0 < n) }
+        ensures told_after { told_by self.new ≡ after_write (told_by self.old) file piece.now result }
+        ensures same_handles { handles_of self.new ≡ handles_of self.old }
+        ensures cause { HasCause (write_faults_of self.old) (write_faults_of self.new) result }
+        ensures same_read_faults { read_faults_of self.new ≡ read_faults_of self.old }
+        ensures same_files { has_file self.new ≡ has_file self.old }
+    {
         if self.calls.next_fails() || !self.shelf.write(self.numbers.name(file), piece) {
             self.write_faults = self.write_faults.saturating_add(1);
             return Err(Failed);
@@ -151,7 +188,14 @@ impl Files for MemoryFiles {
         Ok(piece.len())
     }
 
-    fn flush(&mut self, file: u32) -> Result<(), Failed> {
+    fn flush(&mut self, file: u32) -> Result<(), Failed>
+        requires { handles_of self.old file ≡ Made }
+        ensures told_after { told_by self.new ≡ after_flush (told_by self.old) file result }
+        ensures same_handles { handles_of self.new ≡ handles_of self.old }
+        ensures cause { HasCause (write_faults_of self.old) (write_faults_of self.new) result }
+        ensures same_read_faults { read_faults_of self.new ≡ read_faults_of self.old }
+        ensures same_files { has_file self.new ≡ has_file self.old }
+    {
         if self.calls.next_fails() {
             self.write_faults = self.write_faults.saturating_add(1);
             return Err(Failed);
@@ -160,7 +204,14 @@ impl Files for MemoryFiles {
         Ok(())
     }
 
-    fn close(&mut self, file: u32) {
+    fn close(&mut self, file: u32)
+        requires { handles_of self.old file ≢ Closed }
+        ensures handle { handles_of self.new ≡ set_at (handles_of self.old) file Closed }
+        ensures same_told { told_by self.new ≡ told_by self.old }
+        ensures same_read_faults { read_faults_of self.new ≡ read_faults_of self.old }
+        ensures same_write_faults { write_faults_of self.new ≡ write_faults_of self.old }
+        ensures same_files { has_file self.new ≡ has_file self.old }
+    {
         self.numbers.close(file);
     }
 }

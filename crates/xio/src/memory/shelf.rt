@@ -1,7 +1,7 @@
-ghost use Rattle.std.specs.Prelude.{◌≡◌, ◌+◌, ◌^◌, ◌<◌, ◌↔◌, [], ◌++◌, Some, length, drop, position, vec_len, vec_capacity, is_some, IsTrue, IsErr, IfOk, IfSome, OnOk, OnErr};
+ghost use Rattle.std.specs.Prelude.{◌≡◌, ◌+◌, ◌^◌, ◌<◌, ◌↔◌, [], ◌++◌, Some, true, length, drop, position, vec_len, vec_capacity, is_some, IsTrue, IsErr, IfOk, IfSome, OnOk, OnErr};
 ghost use Rattle.std.specs.Bool.{OnTrue, OnFalse};
 ghost use Rattle.xio.specs.Pieces.{IsFrontOf};
-ghost use Rattle.xio.specs.Shelf.{has_name, file_named, content_of, flushed_of, bad_place_of};
+ghost use Rattle.xio.specs.Shelf.{has_name, is_there, content_of, flushed_of, bad_place_of};
 ghost use Rattle.xio.specs.Told.{set_named};
 
 use crate::failed::Failed;
@@ -40,6 +40,7 @@ impl Shelf {
         requires room { vec_len self.old.files < vec_capacity self.old.files }
         ensures content { content_of self.new.files.items ≡ set_named (content_of self.old.files.items) file.name file.room.bytes }
         ensures flushed { flushed_of self.new.files.items ≡ set_named (flushed_of self.old.files.items) file.name file.flushed }
+        ensures there { is_there self.new.files.items ≡ set_named (is_there self.old.files.items) file.name true }
     {
         match self.index_of(file.name.as_slice()) {
             Some(index) => self.files[index] = file,
@@ -48,7 +49,7 @@ impl Shelf {
     }
 
     pub fn content(&self, name: &[u8]) -> Option<&[u8]>
-        ensures there { is_some result ≡ is_some (file_named self.now.files.items name.now) }
+        ensures there { is_some result ≡ is_there self.now.files.items name.now }
         ensures bytes { IfSome result (λ bytes. bytes.now ≡ content_of self.now.files.items name.now) }
     {
         let index = self.index_of(name)?;
@@ -72,6 +73,7 @@ impl Shelf {
     pub fn write(&mut self, name: &[u8], piece: &[u8]) -> bool
         ensures content { OnTrue result (content_of self.new.files.items ≡ set_named (content_of self.old.files.items) name.now (content_of self.old.files.items name.now ++ piece.now)) }
         ensures flushed { OnTrue result (flushed_of self.new.files.items ≡ flushed_of self.old.files.items) }
+        ensures there { is_there self.new.files.items ≡ is_there self.old.files.items }
         ensures unchanged { OnFalse result (self.new.files.items ≡ self.old.files.items) }
     {
         let Some(index) = self.index_of(name) else {
@@ -85,6 +87,7 @@ impl Shelf {
     pub fn flush(&mut self, name: &[u8])
         ensures content { content_of self.new.files.items ≡ content_of self.old.files.items }
         ensures flushed { flushed_of self.new.files.items ≡ set_named (flushed_of self.old.files.items) name.now (length (content_of self.old.files.items name.now)) }
+        ensures there { is_there self.new.files.items ≡ is_there self.old.files.items }
     {
         if let Some(index) = self.index_of(name) {
             let file = &mut self.files[index];

@@ -1,4 +1,4 @@
-ghost use Rattle.std.specs.Prelude.{◌≡◌, ◌≢◌, false, Ok, IsOkUnless, IfOk, OnOk, OnErr, min, take, length};
+ghost use Rattle.std.specs.Prelude.{◌≡◌, ◌≢◌, true, false, Ok, IsOkUnless, IfOk, OnOk, OnErr, min, take, length};
 ghost use Rattle.xio.specs.Handles.{Closed, Opened, Made, GivesHandle, set_at};
 ghost use Rattle.xio.specs.Told.{set_named, told_none, rest_of, after_open, after_make, after_read};
 ghost use Rattle.xio.specs.declared.files.FileFault.TheVariants as fault;
@@ -45,7 +45,9 @@ impl SteadyFiles {
           content = set_named (kept_by self.old).content name.now bytes.now;
           flushed = set_named (kept_by self.old).flushed name.now 0;
         }) }
+        ensures there { OnOk result (has_file self.new ≡ set_named (has_file self.old) name.now true) }
         ensures err { OnErr result (kept_by self.new ≡ kept_by self.old) }
+        ensures err_files { OnErr result (has_file self.new ≡ has_file self.old) }
         ensures same_handles { handles_of self.new ≡ handles_of self.old }
     {
         let file = StoredFile::holding(self.alloc, name, bytes, None)?;
@@ -56,7 +58,7 @@ impl SteadyFiles {
 }
 
 impl Files for SteadyFiles {
-    ghost use Rattle.xio.specs.SteadyFiles.{kept_by, handles_of};
+    ghost use Rattle.xio.specs.SteadyFiles.{kept_by, handles_of, has_file};
 
     ghost tells = { false };
 
@@ -71,6 +73,7 @@ impl Files for SteadyFiles {
     fn open_file(&mut self, name: &str) -> Result<u32, FileFault>
         ensures handle { GivesHandle Opened (handles_of self.old) (handles_of self.new) result }
         ensures opened { kept_by self.new ≡ after_open (kept_by self.old) name.now result }
+        ensures same_files { has_file self.new ≡ has_file self.old }
         ensures memory_alone { IsOkUnless result fault.OutOfMemory }
     {
         let asked = copy_of(self.alloc, name.as_bytes())?;
@@ -82,6 +85,8 @@ impl Files for SteadyFiles {
     fn make_file(&mut self, name: &str) -> Result<u32, FileFault>
         ensures handle { GivesHandle Made (handles_of self.old) (handles_of self.new) result }
         ensures made { kept_by self.new ≡ after_make (kept_by self.old) name.now result }
+        ensures there { OnOk result (has_file self.new ≡ set_named (has_file self.old) name.now true) }
+        ensures err_files { OnErr result (has_file self.new ≡ has_file self.old) }
         ensures memory_alone { IsOkUnless result fault.OutOfMemory }
     {
         let file = StoredFile::holding(self.alloc, name, &[], None)?;
@@ -97,6 +102,7 @@ impl Files for SteadyFiles {
         ensures count { result ≡ Ok (min (length buffer.old) (length (rest_of (kept_by self.old) file))) }
         ensures bytes { IfOk result (λ n. take n buffer.new ≡ take n (rest_of (kept_by self.old) file)) }
         ensures taken { kept_by self.new ≡ after_read (kept_by self.old) file result }
+        ensures same_files { has_file self.new ≡ has_file self.old }
         ensures same_handles { handles_of self.new ≡ handles_of self.old }
     {
         let content = self.shelf.content(self.numbers.name(file)).unwrap_or(&[]);
@@ -125,6 +131,7 @@ impl Files for SteadyFiles {
         requires { handles_of self.old file ≢ Closed }
         ensures handle { handles_of self.new ≡ set_at (handles_of self.old) file Closed }
         ensures same_kept { kept_by self.new ≡ kept_by self.old }
+        ensures same_files { has_file self.new ≡ has_file self.old }
     {
         self.numbers.close(file);
     }

@@ -1,4 +1,4 @@
-use Rattle.std.proofs.Common.{rules, [], ◌≡◌, Some, None, refl, ap, length, sym, ◌∙◌}
+use Rattle.std.proofs.Common.{rules, true, false, [], ◌≡◌, Some, None, refl, ap, length, sym, ◌∙◌}
 use Rattle.std.specs.Prelude.{position}
 use Rattle.xio.specs.Shelf.{has_name, flushed_of, content_of}
 use Rattle.xio.specs.Told.{set_named}
@@ -24,3 +24,7 @@ returns-in_default-clause-flushed c =
     let none : position (has_name c.args.name.now) files ≡ None = search rules in
     set_named-own (flushed_of files) c.args.name.now _
     (part_of-missing (λ file. file.flushed) 0 files c.args.name.now none ∙ sym (ap length (part_of-missing (λ file. file.room.bytes) [] files c.args.name.now none)))
+
+pub returns-in-Some-clause-there : goal.returns-in-Some-clause-there
+returns-in-Some-clause-there c =
+    part_of-kept (λ _. true) false _ c.args.name.now _ c.index_mut-file.result.now _ (search rules) c.index_mut-file.ensures.value refl refl

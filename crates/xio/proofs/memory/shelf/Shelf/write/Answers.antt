@@ -1,4 +1,4 @@
-use Rattle.std.proofs.Common.{rules, [], ◌≡◌, Some, refl, ap, sym, ◌∙◌, ◌++◌}
+use Rattle.std.proofs.Common.{rules, true, false, [], ◌≡◌, Some, refl, ap, sym, ◌∙◌, ◌++◌}
 use Rattle.std.specs.Prelude.{position}
 use Rattle.std.proofs.lemmas.Bool.{OnTrue_at, OnTrue_from}
 use Rattle.xio.specs.Room.{RoomState}
@@ -21,3 +21,7 @@ returns-clause-content c = OnTrue_from c.put.result _ (λ put.
 pub returns-clause-flushed : goal.returns-clause-flushed
 returns-clause-flushed c = OnTrue_from c.put.result _ (λ _.
     part_of-kept (λ file. file.flushed) 0 _ c.args.name.now _ c.index_mut-file.result.now _ (search rules) c.index_mut-file.ensures.value refl refl)
+
+pub returns-clause-there : goal.returns-clause-there
+returns-clause-there c =
+    part_of-kept (λ _. true) false _ c.args.name.now _ c.index_mut-file.result.now _ (search rules) c.index_mut-file.ensures.value refl refl
