@@ -1,8 +1,7 @@
 -- Where each change of a list is taken, the count is the list's length.
-use Rattle.std.proofs.Common.{◌≡◌, ℕ, ◌+◌, true, false, cond, Bool, ◌&&◌, List, [], ◌∷◌, ◌++◌, length, refl, sym, ap, ◌∙◌, arith}
+use Rattle.std.proofs.Common.{◌≡◌, ◌+◌, true, false, Bool, ◌&&◌, List, [], ◌∷◌, ◌++◌, length, refl, ap, ◌∙◌, subst, arith}
 use Rattle.std.specs.List.{fold}
 use Rattle.std.proofs.lemmas.List.Sums.{fold-append}
-use Rattle.std.proofs.lemmas.Bool.Decides.{nat_tests}
 use Rattle.xdp_state.specs.Book.{Book, AllTaken, after, all_taken_from, applied, empty, made, takes}
 use Rattle.xdp_state.specs.declared.change.Change.{Change}
 use Rattle.xdp_state.specs.declared.change.Change.TheVariants.{Attach, Detach, SetRule, ClearRule}
@@ -35,7 +34,7 @@ more_from : (book : Book) (changes : List Change) (change : Change) → all_take
 more_from book [] change taken next = rw next refl
 more_from book (first ∷ changes) change taken next =
     let h = both (takes book first) (all_taken_from (made book first) changes) taken in
-    let next' : takes (fold applied (made book first) changes) change ≡ true = rw (applied_taken book first h.first) at next in
+    let next' : takes (fold applied (made book first) changes) change ≡ true = subst (λ b. takes (fold applied b changes) change ≡ true) (applied_taken book first h.first) next in
     rw h.first (more_from (made book first) changes change h.second next')
 
 -- one more change that is taken after the others
