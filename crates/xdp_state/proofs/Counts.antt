@@ -1,8 +1,7 @@
 -- Where each change of a list is taken, the count is the list's length.
-use Rattle.std.proofs.Common.{◌≡◌, ℕ, ◌+◌, true, false, cond, Bool, ◌&&◌, List, [], ◌∷◌, ◌++◌, length, refl, sym, ap, ◌∙◌, arith}
+use Rattle.std.proofs.Common.{◌≡◌, ◌+◌, true, false, Bool, ◌&&◌, List, [], ◌∷◌, ◌++◌, length, refl, ap, ◌∙◌, subst, arith}
 use Rattle.std.specs.List.{fold}
 use Rattle.std.proofs.lemmas.List.Sums.{fold-append}
-use Rattle.std.proofs.lemmas.Bool.Decides.{nat_tests}
 use Rattle.xdp_state.specs.Book.{Book, AllTaken, after, all_taken_from, applied, empty, made, takes}
 use Rattle.xdp_state.specs.declared.change.Change.{Change}
 use Rattle.xdp_state.specs.declared.change.Change.TheVariants.{Attach, Detach, SetRule, ClearRule}
@@ -30,6 +29,17 @@ count_from book (change ∷ changes) taken =
 
 pub count_after : (changes : List Change) → AllTaken changes → (after changes).count ≡ length changes
 count_after changes taken = count_from empty changes taken ∙ omega arith
+
+more_from : (book : Book) (changes : List Change) (change : Change) → all_taken_from book changes ≡ true → takes (fold applied book changes) change ≡ true → all_taken_from book (changes ++ change ∷ []) ≡ true
+more_from book [] change taken next = rw next refl
+more_from book (first ∷ changes) change taken next =
+    let h = both (takes book first) (all_taken_from (made book first) changes) taken in
+    let next' : takes (fold applied (made book first) changes) change ≡ true = subst (λ b. takes (fold applied b changes) change ≡ true) (applied_taken book first h.first) next in
+    rw h.first (more_from (made book first) changes change h.second next')
+
+-- one more change that is taken after the others
+pub taken_more : (changes : List Change) (change : Change) → AllTaken changes → takes (after changes) change ≡ true → AllTaken (changes ++ change ∷ [])
+taken_more changes change taken next = more_from empty changes change taken next
 
 pub after_more : (changes : List Change) (change : Change) → after (changes ++ change ∷ []) ≡ applied (after changes) change
 after_more changes change = fold-append applied empty changes (change ∷ [])

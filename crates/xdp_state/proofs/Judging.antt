@@ -1,7 +1,7 @@
 -- What the questions of a command come to, and that what is accepted is taken.
-use Rattle.std.proofs.Common.{◌≡◌, ℕ, ◌<◌, ◌≤◌, true, false, Bool, not, nat_lt, nat_le, nat_eq, ◌==◌, ◌&&◌, ◌||◌, List, [], ◌∷◌, length, find, Some, None, refl, sym, ◌∙◌, ap, subst, arith}
+use Rattle.std.proofs.Common.{◌≡◌, ℕ, ◌<◌, ◌≤◌, true, false, Bool, not, nat_lt, nat_le, ◌==◌, ◌&&◌, ◌||◌, List, [], ◌∷◌, length, find, Some, None, refl, subst, arith}
 use Rattle.std.specs.List.{list_any, position, position_or_len}
-use Rattle.std.specs.Option.{option_map, unwrap_or, is_some}
+use Rattle.std.specs.Option.{unwrap_or, is_some}
 use Rattle.std.proofs.lemmas.Bool.Decides.{nat_tests}
 use Rattle.std.proofs.lemmas.Grind.{common_steps}
 use Rattle.xdp_state.specs.Answer.{answer, first_of, load_answer, unload_answer, set_answer, clear_answer, rule_fits, lacks_feature}

@@ -1,8 +1,7 @@
 -- Eight interfaces with at most ten members each have at most eighty.
-use Rattle.std.proofs.Common.{◌≡◌, ℕ, ◌+◌, ◌*◌, ◌<◌, ◌≤◌, zero, suc, true, false, Bool, not, nat_lt, nat_eq, ◌==◌, ◌&&◌, List, [], ◌∷◌, ◌++◌, length, length-append, refl, arith, filter}
+use Rattle.std.proofs.Common.{◌≡◌, ℕ, ◌+◌, ◌*◌, ◌<◌, ◌≤◌, zero, suc, true, not, nat_lt, ◌==◌, List, [], ◌∷◌, ◌++◌, length, length-append, refl, arith, filter}
 use Rattle.std.specs.List.{list_all}
 use Rattle.std.proofs.lemmas.Bool.Decides.{nat_tests}
-use Rattle.std.proofs.lemmas.Grind.{common_steps}
 use Rattle.std.proofs.lemmas.List.Elements.{filter-append}
 use Rattle.xdp_state.specs.Book.{has_place}
 use Rattle.xdp_state.specs.Members.{members_of, members_without, has_filter, is_filter}

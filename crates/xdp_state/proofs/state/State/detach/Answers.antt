@@ -1,4 +1,4 @@
-use Rattle.std.proofs.Common.{arith, refl, ℕ, ◌≡◌, ◌+◌, ◌<◌, ◌≤◌, vec_capacity}
+use Rattle.std.proofs.Common.{arith, refl, ℕ, ◌≡◌, ◌+◌, ◌<◌, vec_capacity}
 use Rattle.xdp_state.specs.Members.{members_without}
 use Rattle.xdp_state.specs.State.{HasRoom}
 use Rattle.xdp_state.proofs.Members.{interfaces-without, each-without}
