@@ -1,8 +1,13 @@
 pub mod Addresses
+pub mod Filter
 pub mod Frames
 pub mod Handed
+pub mod Interfaces
+pub mod Lists
 pub mod Names
-pub mod Reading
+pub mod Numbers
+pub mod Options
+pub mod Readings
 pub mod Script
 pub mod Texts
 pub mod Words

@@ -2,10 +2,17 @@
 #![tactic(auto)]
 
 mod address;
+mod arranged;
+mod filter;
 mod frame;
+mod interfaces;
 mod lines;
+mod lists;
 mod name;
+mod numbers;
+mod options;
 mod outcome;
+mod parts;
 mod processor;
 mod reading;
 mod script;

@@ -5,7 +5,12 @@ use xio::{Bytes, List};
 #[derive(Debug, Drop)]
 pub enum What {
     Command(Command),
-    Packet { processor: u32, frame: Bytes },
+    /// A packet is handed in to the processor of its queue.
+    Packet {
+        processor: u32,
+        frame: Bytes,
+    },
+    Barrier,
 }
 
 /// A line of the script, by its number from 1.
@@ -15,5 +20,5 @@ pub struct Line {
     pub what: What,
 }
 
-/// Lines in the order of the script; declarations of interfaces are none.
+/// Lines in the order of the script; declarations of interfaces, blank lines and comments are none.
 pub type LineList = List<Line>;
