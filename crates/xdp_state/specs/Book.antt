@@ -1,14 +1,16 @@
 -- What a list of changes makes, from nothing.
-use Rattle.std.specs.Prelude.{ℕ, ◌+◌, ◌==◌, ◌&&◌, ◌||◌, Bool, true, false, not, nat_lt, nat_le, List, [], ◌∷◌, ◌++◌, length, filter, fold, if◌then◌else◌}
-use Rattle.std.specs.List.{list_any, list_all}
+use Rattle.std.specs.Prelude.{◌≡◌, ℕ, ◌+◌, ◌==◌, ◌&&◌, ◌||◌, Bool, true, false, not, nat_lt, nat_le, List, [], ◌∷◌, ◌++◌, length, fold, if◌then◌else◌}
+use Rattle.std.specs.List.{list_all}
 use Rattle.filter_rules.specs.Rule.{all_flags}
-use Rattle.filter_rules.specs.Rules.{has_row, set_rule}
+use Rattle.filter_rules.specs.Rules.{has_row, set_rule, clear_rule}
+use Rattle.filter_rules.specs.declared.rule.RuleKey.{RuleKey}
 use Rattle.filter_rules.specs.declared.rule.RuleRow.{RuleRow}
+use Rattle.xdp_state.specs.Members.{members_of, members_without, has_filter}
 use Rattle.xdp_state.specs.declared.attachment.Attachment.{Attachment}
 use Rattle.xdp_state.specs.declared.attachment.Mode.{Mode}
 use Rattle.xdp_state.specs.declared.attachment.Mode.TheVariants.{Native, Skb}
 use Rattle.xdp_state.specs.declared.change.Change.{Change}
-use Rattle.xdp_state.specs.declared.change.Change.TheVariants.{Attach, SetRule}
+use Rattle.xdp_state.specs.declared.change.Change.TheVariants.{Attach, Detach, SetRule, ClearRule}
 
 pub record Book : Type 0 where
   -- in order of attaching
@@ -26,20 +28,21 @@ same_mode Native Native = true
 same_mode Skb Skb = true
 same_mode _ _ = false
 
--- the members of an interface, in order of attaching
-abbrev pub members_of : List Attachment → ℕ → List Attachment
-members_of members interface = filter (λ m. m.interface == interface) members
-
 -- fewer than ten members are there, none of another mode, and no filter
 abbrev pub has_place : List Attachment → Mode → Bool
-has_place there mode = nat_lt (length there) 10 && list_all (λ m. same_mode m.mode mode) there && (length there == 0)
+has_place there mode = nat_lt (length there) 10 && list_all (λ m. same_mode m.mode mode) there && not (has_filter there)
+
+-- some flags of the key's kind
+abbrev pub has_own_flags : RuleKey → ℕ → Bool
+has_own_flags key flags = not (flags == 0) && nat_le flags (all_flags key.kind)
 
 -- the book takes the change
 abbrev pub fits : Book → Change → Bool
 fits book (Attach interface kind priority rank mask mode) =
     nat_lt interface 8 && has_place (members_of book.members interface) mode
-fits book (SetRule key flags) =
-    not (flags == 0) && nat_le flags (all_flags key.kind) && (has_row book.rows key || nat_lt (length book.rows) 4096)
+fits book (Detach interface number clear_rules) = nat_lt interface 8
+fits book (SetRule key flags) = has_own_flags key flags && (has_row book.rows key || nat_lt (length book.rows) 4096)
+fits book (ClearRule key flags) = has_own_flags key flags
 
 abbrev pub takes : Book → Change → Bool
 takes book change = nat_lt book.count 65536 && fits book change
@@ -58,8 +61,17 @@ made book (Attach interface kind priority rank mask mode) = record book {
   } ∷ [];
   count = book.count + 1;
 }
+made book (Detach interface number clear_rules) = record {
+  members = members_without book.members interface number;
+  rows = if clear_rules then [] else book.rows;
+  count = book.count + 1;
+}
 made book (SetRule key flags) = record book {
   rows = set_rule book.rows key flags (book.count + 1);
+  count = book.count + 1;
+}
+made book (ClearRule key flags) = record book {
+  rows = clear_rule book.rows key flags;
   count = book.count + 1;
 }
 
@@ -69,3 +81,11 @@ applied book change = if takes book change then made book change else book
 
 abbrev pub after : List Change → Book
 after changes = fold applied empty changes
+
+-- each change is taken after those before it
+abbrev pub all_taken_from : Book → List Change → Bool
+all_taken_from book [] = true
+all_taken_from book (change ∷ changes) = takes book change && all_taken_from (made book change) changes
+
+abbrev pub AllTaken : List Change → Type 0
+AllTaken changes = all_taken_from empty changes ≡ true

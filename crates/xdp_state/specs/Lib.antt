@@ -1,9 +1,12 @@
+pub mod Answer
 pub mod Book
 pub mod Capped
 pub mod Carrier
+pub mod Hits
+pub mod Interfaces
+pub mod Members
 pub mod Own
 pub mod OwnView
 pub mod State
 pub mod Sums
 pub mod Traversal
-pub mod Wanted

@@ -1,5 +1,6 @@
 use Rattle.std.specs.Prelude.{◌≤◌, length}
-use Rattle.xdp_state.specs.Book.{Book, members_of}
+use Rattle.xdp_state.specs.Book.{Book}
+use Rattle.xdp_state.specs.Members.{members_of}
 use Rattle.xdp_state.specs.Carrier.{Carrier}
 
 -- there is room for a visit of each member that the interface has

@@ -8,7 +8,7 @@ abbrev pub view_of : Inside → Carrier
 view_of own = record {
   interface = own.interface;
   room = vec_capacity own.visits;
-  trip = option_map (λ verdict. record { visits = own.visits.items; verdict = verdict; frame = own.frame.items }) own.verdict;
+  trip = option_map (λ verdict. record { visits = own.visits.items; verdict = verdict; target = own.target; frame = own.frame.items }) own.verdict;
 }
 
 abbrev pub HasFrame : Inside → Type 0

@@ -1,7 +1,8 @@
 -- How a state stands for a book, and the room that it keeps.
 use Rattle.std.specs.Prelude.{ℕ, ◌≡◌, ◌≤◌, true, nat_lt, length, vec_capacity}
 use Rattle.std.specs.List.{list_all}
-use Rattle.xdp_state.specs.Book.{Book, members_of}
+use Rattle.xdp_state.specs.Book.{Book}
+use Rattle.xdp_state.specs.Members.{members_of}
 use Rattle.xdp_state.specs.declared.state.State.TheInside.{Inside}
 
 abbrev pub view_of : Inside → Book

@@ -1,14 +1,22 @@
 -- The sums over the packets that were carried.
-use Rattle.std.specs.Prelude.{ℕ, ◌==◌, List, [], ◌∷◌, count_by, sum_by, if◌then◌else◌}
+use Rattle.std.specs.Prelude.{ℕ, ◌+◌, ◌==◌, List, [], ◌∷◌, ◌++◌, zero, suc, max, count_by, sum_by, if◌then◌else◌}
+use Rattle.std.specs.List.{filter_map}
 use Rattle.xio.specs.declared.action.Action.{Action}
 use Rattle.xio.specs.Action.{number}
 use Rattle.xdp_state.specs.Capped.{capped}
+use Rattle.xdp_state.specs.declared.hits.HitRow.{HitRow}
 use Rattle.xdp_state.specs.declared.tally.Tally.{Tally}
+use Rattle.xdp_state.specs.declared.traversal.Visit.{Visit}
 
--- a packet's verdict, and its length when it was handed in
+-- a packet's verdict, its length when it was handed in, and the numbers of the rows that its visits name, in order
 pub record Counted : Type 0 where
   pub verdict : Action
   pub handed : ℕ
+  pub rules : List ℕ
+
+-- the numbers that the visits name
+abbrev pub rules_of : List Visit → List ℕ
+rules_of visits = filter_map (λ v. v.rule) visits
 
 -- how many packets have the verdict of this number, and their bytes
 abbrev pub packets_with : ℕ → List Counted → ℕ
@@ -21,9 +29,34 @@ bytes_with action carried = sum_by (λ c. if number c.verdict == action then c.h
 abbrev pub by_action : (ℕ → ℕ) → List ℕ
 by_action f = f 0 ∷ f 1 ∷ f 2 ∷ f 3 ∷ f 4 ∷ []
 
+-- the numbers of all visits of the packets that name a row
+abbrev pub named : List Counted → List ℕ
+named [] = []
+named (c ∷ cs) = c.rules ++ named cs
+
+-- how often a number is named
+abbrev pub times : List ℕ → ℕ → ℕ
+times rules rule = count_by (λ r. r == rule) rules
+
+abbrev pub greatest : List ℕ → ℕ
+greatest [] = 0
+greatest (r ∷ rs) = max r (greatest rs)
+
+-- of so many numbers from the first on, a row for each that has hits, ascending
+unfoldable pub rows_from : (ℕ → ℕ) → ℕ → ℕ → List HitRow
+rows_from hits first zero = []
+rows_from hits first (suc n) =
+    if hits first == 0 then rows_from hits (first + 1) n
+    else record { rule = first; hits = capped (hits first) } ∷ rows_from hits (first + 1) n
+
+-- a row for each number that is named
+abbrev pub hit_rows : List ℕ → List HitRow
+hit_rows rules = rows_from (times rules) 0 (greatest rules + 1)
+
 -- the tally of these packets
-abbrev pub tally_of : List Counted → Tally
+unfoldable pub tally_of : List Counted → Tally
 tally_of carried = record {
+  hits = hit_rows (named carried);
   packets = by_action (λ action. capped (packets_with action carried));
   bytes = by_action (λ action. capped (bytes_with action carried));
 }

@@ -12,7 +12,19 @@ pub enum Change {
         mask: u8,
         mode: Mode,
     },
+    /// The member of this number leaves, and with `clear_rules` all rows.
+    Detach {
+        interface: u32,
+        number: u32,
+        clear_rules: bool,
+    },
+    /// The row of the key gets the flags; where there is none it is made.
     SetRule {
+        key: RuleKey,
+        flags: u8,
+    },
+    /// The row of the key loses the flags, and goes where none are left.
+    ClearRule {
         key: RuleKey,
         flags: u8,
     },

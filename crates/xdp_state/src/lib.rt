@@ -1,21 +1,27 @@
 //! What the interfaces carry: the state that publications make, and a packet's way through it.
 #![tactic(auto)]
 
+mod answer;
 mod attachment;
 mod change;
 mod choices;
 mod command;
+mod hits;
 mod interface;
+mod judgement;
 mod own;
 mod state;
 mod tally;
 mod traversal;
 
+pub use answer::judge;
 pub use attachment::{Attachment, Kind, Mode};
 pub use change::Change;
 pub use choices::{Choices, CountList, NeedsList};
 pub use command::Command;
+pub use hits::{HitList, HitRow};
 pub use interface::{Interface, InterfaceList};
+pub use judgement::{Judgement, Reason};
 pub use own::{Own, traverse};
 pub use state::State;
 pub use tally::Tally;

@@ -1,13 +1,14 @@
 ghost use Rattle.std.specs.Prelude.{◌≡◌, ◌≤◌, length, vec_capacity, vec_len, None, Some, IsSome, IfSome, IfOk, OnOk, []};
-ghost use Rattle.xdp_state.specs.Book.{members_of};
-ghost use Rattle.xdp_state.specs.Traversal.{visit, visits_of, verdict_of, traversal};
+ghost use Rattle.xdp_state.specs.Members.{members_of};
+ghost use Rattle.xdp_state.specs.Traversal.{visit, visits_of, deciding, traversal};
 ghost use Rattle.xdp_state.specs.Own.{IsPrepared};
 
 use crate::attachment::{Attachment, Kind};
 use crate::state::State;
 use crate::traversal::{Traversal, Visit};
-use filter_rules::{FilterEnd, Rules, headers};
+use filter_rules::{FilterEnd, Rules};
 use lists::{Bytes, List};
+use net_headers::headers;
 use std::alloc::Global;
 use std::marker::Model;
 use xio::{Action, OutOfMemory};
@@ -22,6 +23,7 @@ pub struct Own {
     visits: Vec<Visit>,
     frame: Vec<u8>,
     verdict: Option<Action>,
+    target: u32,
 }
 
 impl Model for Own {
@@ -46,6 +48,7 @@ impl Own {
             visits: Vec::new(alloc),
             frame: Vec::with_capacity(alloc, FRAME)?,
             verdict: None,
+            target: 0,
         })
     }
 
@@ -67,6 +70,30 @@ impl Own {
         self.verdict.unwrap()
     }
 
+    /// The verdict's target: where XDP_REDIRECT sends it, else 0.
+    pub fn target(&self) -> u32
+        requires { IsSome self.now.trip }
+        ensures { IfSome self.now.trip (λ trip. result ≡ trip.target) }
+    {
+        self.target
+    }
+
+    /// The visits of the last packet.
+    pub fn visits(&self) -> &[Visit]
+        requires { IsSome self.now.trip }
+        ensures { IfSome self.now.trip (λ trip. result.now ≡ trip.visits) }
+    {
+        self.visits.as_slice()
+    }
+
+    /// The last packet's frame behind the chain.
+    pub fn frame(&self) -> &[u8]
+        requires { IsSome self.now.trip }
+        ensures { IfSome self.now.trip (λ trip. result.now ≡ trip.frame) }
+    {
+        self.frame.as_slice()
+    }
+
     /// The way of the last packet.
     pub fn trip(&self, alloc: Global) -> Result<Traversal, OutOfMemory>
         requires { IsSome self.now.trip }
@@ -78,10 +105,10 @@ impl Own {
         }
         let mut frame = Bytes::new(alloc);
         frame.append(&self.frame)?;
-        let verdict = self.verdict.unwrap();
         Ok(Traversal {
             visits,
-            verdict,
+            verdict: self.verdict(),
+            target: self.target,
             frame,
         })
     }
@@ -99,14 +126,19 @@ pub fn traverse(state: &State, own: &mut Own, frame: &[u8])
     let Ok(()) = own.frame.extend_from_slice(frame) else {
         unreachable!()
     };
-    let verdict = visit_all(
+    let last = visit_all(
         state.rules(),
         frame,
         state.members(),
         own.interface,
         &mut own.visits,
     );
+    let (verdict, target) = match last {
+        Some(visit) => (visit.action, visit.target),
+        None => (Action::Pass, 0),
+    };
     own.verdict = Some(verdict);
+    own.target = target;
 }
 
 /// How many members the interface has.
@@ -119,19 +151,19 @@ fn members_on(members: &[Attachment], interface: u32) -> usize
         .count()
 }
 
-/// Visits the members of the interface in order, and answers the verdict.
+/// Visits the members of the interface in order, and answers the visit that decides.
 fn visit_all(
     rules: &Rules,
     frame: &[u8],
     members: &[Attachment],
     interface: u32,
     visits: &mut Vec<Visit>,
-) -> Action
+) -> Option<Visit>
     requires least { 14 ≤ length frame.now }
     requires none { visits.old.items ≡ [] }
     requires room { length (members_of members.now interface) ≤ vec_capacity visits.old }
     ensures visits { visits.new.items ≡ visits_of rules.now frame.now (members_of members.now interface) }
-    ensures verdict { result ≡ verdict_of rules.now frame.now (members_of members.now interface) }
+    ensures last { result ≡ deciding rules.now frame.now (members_of members.now interface) }
     ensures room { vec_capacity visits.new ≡ vec_capacity visits.old }
 {
     for member in members {
@@ -139,11 +171,11 @@ fn visit_all(
             let visit = visit(rules, frame, member);
             visits.push_reserved(visit);
             if !visit.action.is_in(member.mask) {
-                return visit.action;
+                return Some(visit);
             }
         }
     }
-    Action::Pass
+    None
 }
 
 /// What one member makes of the frame.
@@ -155,17 +187,16 @@ fn visit(rules: &Rules, frame: &[u8], member: &Attachment) -> Visit
     let Ok(headers) = headers(frame) else {
         unreachable!()
     };
-    match rules.verdict(&headers, policy, features) {
-        FilterEnd::Hit { rule, action } => Visit {
-            number: member.number,
-            action,
-            rule: Some(rule),
-        },
-        FilterEnd::Miss { action } => Visit {
-            number: member.number,
-            action,
-            rule: None,
-        },
+    let (action, rule) = match rules.verdict(&headers, policy, features) {
+        FilterEnd::Hit { rule, action } => (action, Some(rule)),
+        FilterEnd::Miss { action } => (action, None),
+        FilterEnd::Cut => (Action::Aborted, None),
+    };
+    Visit {
+        number: member.number,
+        action,
+        rule,
+        target: 0,
     }
 }
 

@@ -1,7 +1,8 @@
-ghost use Rattle.std.specs.Prelude.{◌≡◌, ◌+◌, ◌<◌, ◌||◌, ◌==◌, not, true, nat_lt, [], ◌∷◌, ◌++◌, length, IfOk};
+ghost use Rattle.std.specs.Prelude.{◌≡◌, ◌+◌, ◌<◌, ◌||◌, ◌==◌, not, true, nat_lt, [], ◌∷◌, ◌++◌, length, vec_capacity, IfOk, if◌then◌else◌};
 ghost use Rattle.std.specs.List.{list_all};
-ghost use Rattle.xdp_state.specs.Book.{members_of, has_place};
-ghost use Rattle.filter_rules.specs.Rules.{has_row, set_rule};
+ghost use Rattle.xdp_state.specs.Book.{has_place, has_own_flags};
+ghost use Rattle.xdp_state.specs.Members.{members_of, members_without};
+ghost use Rattle.filter_rules.specs.Rules.{has_row, set_rule, clear_rule};
 
 use crate::attachment::{Attachment, Mode};
 use crate::change::Change;
@@ -104,7 +105,13 @@ impl State {
                 mode,
                 number: self.count + 1,
             }),
+            Change::Detach {
+                interface,
+                number,
+                clear_rules,
+            } => self.detach(interface, number, clear_rules),
             Change::SetRule { key, flags } => self.set_rule(key, flags),
+            Change::ClearRule { key, flags } => self.clear_rule(key, flags),
         }
     }
 
@@ -119,6 +126,22 @@ impl State {
         self.count += 1;
     }
 
+    /// Takes a member off its interface, and with `clear_rules` all rows.
+    fn detach(&mut self, interface: u32, number: u32, clear_rules: bool)
+        requires { self.old.count < 65536 }
+        ensures { self.new ≡ record {
+          members = members_without self.old.members interface number;
+          rows = if clear_rules then [] else self.old.rows;
+          count = self.old.count + 1;
+        } }
+    {
+        take_off(&mut self.members, interface, number);
+        if clear_rules {
+            self.rules.clear();
+        }
+        self.count += 1;
+    }
+
     /// Sets flags in the row of the key, or makes it.
     fn set_rule(&mut self, key: RuleKey, flags: u8)
         requires place { (has_row self.old.rows key || nat_lt (length self.old.rows) 4096) ≡ true }
@@ -126,6 +149,16 @@ impl State {
         ensures { self.new ≡ record self.old { rows = set_rule self.old.rows key flags (self.old.count + 1); count = self.old.count + 1 } }
     {
         let _ = self.rules.add(key, flags, self.count + 1);
+        self.count += 1;
+    }
+
+    /// Clears flags in the row of the key.
+    fn clear_rule(&mut self, key: RuleKey, flags: u8)
+        requires flags { has_own_flags key flags ≡ true }
+        requires count { self.old.count < 65536 }
+        ensures { self.new ≡ record self.old { rows = clear_rule self.old.rows key flags; count = self.old.count + 1 } }
+    {
+        let _ = self.rules.remove(key, flags);
         self.count += 1;
     }
 
@@ -138,14 +171,29 @@ impl State {
                 interface,
                 mode,
                 ..
-            } => { interface < INTERFACES && has_place(&self.members, interface, mode) }
+            } => interface < INTERFACES && has_place(&self.members, interface, mode),
+            Change::Detach { interface, .. } => interface < INTERFACES,
             Change::SetRule { key, flags } => {
-                flags != 0
-                    && flags <= key.kind.all_flags()
-                    && (self.rules.contains(key) || self.rules.len() < ROWS)
+                has_own_flags(key, flags) && (self.rules.contains(key) || self.rules.len() < ROWS)
             }
+            Change::ClearRule { key, flags } => has_own_flags(key, flags),
         }
     }
+}
+
+/// Whether these are some flags of the key's kind.
+fn has_own_flags(key: RuleKey, flags: u8) -> bool
+    ensures { result ≡ has_own_flags key flags }
+{
+    flags != 0 && flags <= key.kind.all_flags()
+}
+
+/// Drops the member of this interface and number.
+fn take_off(members: &mut Vec<Attachment>, interface: u32, number: u32)
+    ensures members { members.new.items ≡ members_without members.old.items interface number }
+    ensures room { vec_capacity members.new ≡ vec_capacity members.old }
+{
+    members.retain(|member| !(member.interface == interface && member.number == number));
 }
 
 /// Whether the interface has a place for one more member of this mode: each member is a filter, of which a chain has one.

@@ -1,44 +1,65 @@
-ghost use Rattle.std.specs.Prelude.{◌≡◌, ℕ, ◌+◌, ◌<◌, ◌==◌, List, [], ◌∷◌, ◌++◌, slice_index, length, if◌then◌else◌};
+ghost use Rattle.std.specs.Prelude.{◌≡◌, ℕ, ◌+◌, ◌<◌, ◌==◌, List, [], ◌∷◌, ◌++◌, slice_index, length, if◌then◌else◌, OnOk, OnErr};
 ghost use Rattle.xdp_state.specs.Capped.{capped};
 
-use xio::Action;
+use crate::hits::HitList;
+use crate::traversal::Visit;
+use std::alloc::Global;
+use xio::{Action, OutOfMemory};
 
-/// Packets by verdict, and their bytes as they were handed in, by the action's number. A sum stops at 2^64 - 1.
-#[derive(Clone, Copy, Debug, PartialEq, Eq)]
+/// Hits by row number, and packets by verdict with their bytes as they were handed in, by the action's number. A sum
+/// stops at 2^64 - 1.
+#[derive(Debug, Drop)]
 pub struct Tally {
+    pub hits: HitList,
     pub packets: [u64; 5],
     pub bytes: [u64; 5],
 }
 
 impl Tally {
-    ghost use Rattle.xdp_state.specs.Sums.{Counted, tally_of};
+    ghost use Rattle.xdp_state.specs.Hits.{hits_in};
+    ghost use Rattle.xdp_state.specs.Sums.{Counted, tally_of, rules_of};
 
     /// No packets.
-    pub fn new() -> Self
+    pub fn new(alloc: Global) -> Self
         ensures { result ≡ tally_of [] }
     {
         Tally {
+            hits: HitList::new(alloc),
             packets: [0; 5],
             bytes: [0; 5],
         }
     }
 
-    /// One more packet, of this verdict and length.
-    pub fn add(&mut self, verdict: Action, handed: u64)
-        ensures { (carried : List Counted) → self.old ≡ tally_of carried
-            → self.new ≡ tally_of (carried ++ record { verdict = verdict; handed = handed } ∷ []) }
+    /// One more packet, of these visits, this verdict and this length.
+    pub fn add(&mut self, visits: &[Visit], verdict: Action, handed: u64) -> Result<(), OutOfMemory>
+        ensures ok { OnOk result ((carried : List Counted) → self.old ≡ tally_of carried → self.new
+            ≡ tally_of (carried ++ record { verdict = verdict; handed = handed; rules = rules_of visits.now } ∷ [])) }
+        ensures err { OnErr result (self.new ≡ self.old) }
     {
+        self.hits.add(visits)?;
         raise(&mut self.packets, verdict.number(), 1);
         raise(&mut self.bytes, verdict.number(), handed);
+        Ok(())
     }
 
     /// The packets of both.
-    pub fn merge(&mut self, other: &Tally)
-        ensures { (mine theirs : List Counted) → self.old ≡ tally_of mine → other.now ≡ tally_of theirs
-            → self.new ≡ tally_of (mine ++ theirs) }
+    pub fn merge(&mut self, other: &Tally) -> Result<(), OutOfMemory>
+        ensures ok { OnOk result ((mine theirs : List Counted) → self.old ≡ tally_of mine → other.now ≡ tally_of theirs
+            → self.new ≡ tally_of (mine ++ theirs)) }
+        ensures err { OnErr result (self.new ≡ self.old) }
     {
+        self.hits.merge(&other.hits)?;
         raise_all(&mut self.packets, &other.packets);
         raise_all(&mut self.bytes, &other.bytes);
+        Ok(())
+    }
+
+    /// How often the row of this number was named, 0 where no row of hits has it.
+    pub fn hits_of(&self, rule: u32) -> u64
+        ensures row { result ≡ hits_in self.now.hits rule }
+        ensures hits { (carried : List Counted) → self.now ≡ tally_of carried → result ≡ capped (times (named carried) rule) }
+    {
+        self.hits.hits_of(rule)
     }
 }
 
@@ -66,18 +87,38 @@ fn raise_all(sums: &mut [u64; 5], by: &[u64; 5])
 #[cfg(test)]
 mod tests {
     use super::*;
+    use crate::hits::HitRow;
+    use std::test::Fail;
+
+    fn visit(action: Action, rule: Option<u32>) -> Visit {
+        Visit {
+            number: 1,
+            action,
+            rule,
+            target: 0,
+        }
+    }
 
     #[test]
-    fn counts_by_verdict(rt: HostRuntime) {
-        let mut tally = Tally::new();
-        tally.add(Action::Drop, 14);
-        tally.add(Action::Pass, 60);
-        let mut other = Tally::new();
-        other.add(Action::Pass, 14);
-        other.add(Action::Redirect, u64::MAX);
-        tally.merge(&other);
-        tally.add(Action::Redirect, 1);
-        assert_eq!(rt; tally.packets, [0, 1, 2, 0, 2]);
-        assert_eq!(rt; tally.bytes, [0, 14, 74, 0, u64::MAX]);
+    fn counts_by_verdict_and_by_rule(rt: HostRuntime) -> Result<(), Fail> {
+        let dropped = [visit(Action::Pass, Some(9)), visit(Action::Drop, Some(4))];
+        let passed = [visit(Action::Pass, None)];
+        let mut tally = Tally::new(rt.alloc());
+        tally.add(&dropped, Action::Drop, 14)?;
+        tally.add(&passed, Action::Pass, 60)?;
+        let mut other = Tally::new(rt.alloc());
+        other.add(&[visit(Action::Drop, Some(6))], Action::Drop, 20)?;
+        other.add(&dropped[..1], Action::Pass, 14)?;
+        other.add(&passed, Action::Redirect, u64::MAX)?;
+        tally.merge(&other)?;
+        tally.add(&passed, Action::Redirect, 1)?;
+        assert_eq!(rt; tally.packets, [0, 2, 2, 0, 2]);
+        assert_eq!(rt; tally.bytes, [0, 34, 74, 0, u64::MAX]);
+        let rows = [(4, 1), (6, 1), (9, 2)].map(|(rule, hits)| HitRow { rule, hits });
+        assert_eq!(rt; tally.hits.as_slice(), rows.as_slice());
+        for (rule, hits) in [(3, 0), (4, 1), (5, 0), (6, 1), (9, 2), (10, 0)] {
+            assert_eq!(rt; tally.hits_of(rule), hits);
+        }
+        Ok(())
     }
 }

@@ -1,0 +1,26 @@
+use crate::change::Change;
+
+/// Why a command is refused.
+#[derive(Clone, Copy, Debug, PartialEq, Eq)]
+pub enum Reason {
+    /// The interface isn't declared.
+    NoInterface,
+    /// The interface has a filter already.
+    FilterThere,
+    /// The interface has no filter; of a rule, that no interface has one.
+    FilterNotThere,
+    /// A feature that the rule needs is on in no filter.
+    FeatureMissing,
+    /// All rows are taken, and none has the key.
+    RulesFull,
+    /// No row with the key has any of the flags.
+    NoSuchRule,
+}
+
+/// The answer to a command: the change that it makes, that it only shows something, or why it is refused.
+#[derive(Clone, Copy, Debug, PartialEq, Eq)]
+pub enum Judgement {
+    Accepted(Change),
+    Shown,
+    Refused(Reason),
+}
