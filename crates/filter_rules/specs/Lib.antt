@@ -1,4 +1,3 @@
-pub mod Headers
 pub mod Policy
 pub mod Rule
 pub mod Rules

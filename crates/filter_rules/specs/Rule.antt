@@ -1,7 +1,8 @@
-use Rattle.std.specs.Prelude.{ℕ, ◌==◌, ◌&&◌, Bool, true, false}
+use Rattle.std.specs.Prelude.{ℕ, ◌==◌, ◌&&◌, Bool, true, false, bit_and, not}
 use Rattle.filter_rules.specs.declared.rule.RuleKind.{RuleKind}
 use Rattle.filter_rules.specs.declared.rule.RuleKind.TheVariants.{Port, Ip4, Ip6, Ether}
 use Rattle.filter_rules.specs.declared.rule.RuleKey.{RuleKey}
+use Rattle.filter_rules.specs.declared.rule.RuleRow.{RuleRow}
 
 abbrev pub same_kind : RuleKind → RuleKind → Bool
 same_kind Port Port = true
@@ -19,3 +20,11 @@ all_flags Port = 15
 all_flags Ip4 = 3
 all_flags Ip6 = 3
 all_flags Ether = 3
+
+-- the bits of the first number have one of the second's
+abbrev pub has_one_of : ℕ → ℕ → Bool
+has_one_of bits wanted = not (bit_and bits wanted == 0)
+
+-- the row has the key and one of these flags
+abbrev pub answers : RuleKey → ℕ → RuleRow → Bool
+answers key flags row = same_key row.key key && has_one_of row.flags flags

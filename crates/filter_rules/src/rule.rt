@@ -1,5 +1,7 @@
 ghost use Rattle.std.specs.Prelude.{◌≡◌};
-ghost use Rattle.filter_rules.specs.Rule.{all_flags};
+ghost use Rattle.filter_rules.specs.Rule.{all_flags, answers};
+
+use crate::flags;
 
 /// What a rule's value is.
 #[derive(Clone, Copy, Debug, PartialEq, Eq)]
@@ -16,8 +18,8 @@ impl RuleKind {
         ensures { result ≡ all_flags self }
     {
         match self {
-            RuleKind::Port => 15,
-            RuleKind::Ip4 | RuleKind::Ip6 | RuleKind::Ether => 3,
+            RuleKind::Port => flags::PORT,
+            RuleKind::Ip4 | RuleKind::Ip6 | RuleKind::Ether => flags::ADDRESS,
         }
     }
 }
@@ -30,6 +32,36 @@ pub struct RuleKey {
 }
 
 impl RuleKey {
+    /// The key of a port.
+    pub fn port(number: u16) -> Self
+        ensures { result ≡ record { kind = RuleKind.Port; value = number } }
+    {
+        RuleKey {
+            kind: RuleKind::Port,
+            value: u128::from(number),
+        }
+    }
+
+    /// The key of an IPv4 address.
+    pub fn ip4(address: u32) -> Self
+        ensures { result ≡ record { kind = RuleKind.Ip4; value = address } }
+    {
+        RuleKey {
+            kind: RuleKind::Ip4,
+            value: u128::from(address),
+        }
+    }
+
+    /// The key of an IPv6 address.
+    pub fn ip6(address: u128) -> Self
+        ensures { result ≡ record { kind = RuleKind.Ip6; value = address } }
+    {
+        RuleKey {
+            kind: RuleKind::Ip6,
+            value: address,
+        }
+    }
+
     /// The key of an Ethernet address.
     pub fn ether(address: u64) -> Self
         ensures { result ≡ record { kind = RuleKind.Ether; value = address } }
@@ -41,8 +73,7 @@ impl RuleKey {
     }
 }
 
-/// A row of the filter. Flags of a port are 1 src-tcp, 2 src-udp, 4 dst-tcp, 8 dst-udp, of an address 1 src and 2 dst.
-/// The number is that of the publication that made the row.
+/// A row of the filter; `flags` names the bits of its flags. The number is that of the publication that made the row.
 #[derive(Clone, Copy, Debug, PartialEq, Eq)]
 pub struct RuleRow {
     pub key: RuleKey,
@@ -51,12 +82,10 @@ pub struct RuleRow {
 }
 
 impl RuleRow {
-    ghost use Rattle.filter_rules.specs.Verdict.{answers};
-
-    /// Whether it has the key and the flag.
-    pub fn answers(&self, key: RuleKey, flag: u8) -> bool
-        ensures { result ≡ answers (record { key = key; flag = flag }) self.now }
+    /// Whether it has the key and one of the flags.
+    pub fn answers(&self, key: RuleKey, flags: u8) -> bool
+        ensures { result ≡ answers key flags self.now }
     {
-        self.key == key && self.flags & flag != 0
+        self.key == key && self.flags & flags != 0
     }
 }

@@ -1,11 +1,12 @@
 ghost use Rattle.std.specs.Prelude.{◌≡◌, ◌<◌, ◌≤◌, ◌↔◌, true, false, List, [], length, vec_len, vec_capacity, slice_get, Some, IfOk, OnOk, OnErr, IsErr, find, position};
-ghost use Rattle.filter_rules.specs.Rules.{has_key, has_row, set_rule, number_of};
-ghost use Rattle.filter_rules.specs.Verdict.{verdict, hit, questions, answers};
+ghost use Rattle.filter_rules.specs.Rule.{answers};
+ghost use Rattle.filter_rules.specs.Rules.{has_key, has_row, has_rule, set_rule, clear_rule, number_of};
+ghost use Rattle.filter_rules.specs.Verdict.{verdict};
 
-use crate::fields::Headers;
 use crate::policy::Policy;
 use crate::rule::{RuleKey, RuleRow};
-use crate::verdict::FilterEnd;
+use crate::verdict::{FilterEnd, verdict};
+use net_headers::Headers;
 use std::alloc::Global;
 use std::marker::Model;
 use xio::OutOfMemory;
@@ -13,17 +14,13 @@ use xio::OutOfMemory;
 /// How many rows there may be.
 pub const ROWS: u32 = 4096;
 
-/// The feature of Ethernet rules.
-const ETHERNET: u8 = 16;
-
-/// The flags of an address row.
-const SOURCE: u8 = 1;
-
-const TARGET: u8 = 2;
-
 /// There are 4,096 rows, and none has the key.
 #[derive(Clone, Copy, Debug, PartialEq, Eq)]
 pub struct RulesFull;
+
+/// No row with the key has any of the flags.
+#[derive(Clone, Copy, Debug, PartialEq, Eq)]
+pub struct NoSuchRule;
 
 /// The rows of the filter in the order in which they were made, with different keys.
 #[derive(Debug, Drop)]
@@ -73,6 +70,13 @@ impl Rules {
         self.rows.iter().any(|row| row.key == key)
     }
 
+    /// Whether a row with the key has one of the flags.
+    pub fn has_rule(&self, key: RuleKey, flags: u8) -> bool
+        ensures { result ≡ has_rule self.now key flags }
+    {
+        self.rows.iter().any(|row| row.answers(key, flags))
+    }
+
     /// Sets flags in the row of the key, or makes a row of this number, and answers the row's number. The flags are those
     /// of the key's kind, at least one.
     #[tactic(auto, using(crate::proofs::Rows::first_passing))]
@@ -94,30 +98,35 @@ impl Rules {
         Ok(number)
     }
 
+    /// Clears flags in the row of the key, and drops the row where it has no flag left. The flags are those of the key's
+    /// kind, at least one.
+    pub fn remove(&mut self, key: RuleKey, flags: u8) -> Result<(), NoSuchRule>
+        ensures rows { OnOk result (self.new ≡ clear_rule self.old key flags) }
+        ensures none { IsErr result ↔ (has_rule self.old key flags ≡ false) }
+        ensures err { OnErr result (self.new ≡ self.old) }
+    {
+        let place = place_of_rule(&self.rows, key, flags).ok_or(NoSuchRule)?;
+        let left = self.rows[place].flags & !flags;
+        if left == 0 {
+            self.rows.remove(place);
+        } else {
+            self.rows[place].flags = left;
+        }
+        Ok(())
+    }
+
+    /// Drops all rows.
+    pub fn clear(&mut self)
+        ensures { self.new ≡ [] }
+    {
+        self.rows.clear();
+    }
+
     /// What a filter of this policy and these features makes of a frame with these headers.
     pub fn verdict(&self, headers: &Headers, policy: Policy, features: u8) -> FilterEnd
         ensures { result ≡ verdict self.now headers.now policy features }
     {
-        match self.hit(headers, features) {
-            Some(row) => FilterEnd::Hit {
-                rule: row.number,
-                action: policy.hit(),
-            },
-            None => FilterEnd::Miss {
-                action: policy.miss(),
-            },
-        }
-    }
-
-    /// The row that answers the first question that a row answers.
-    fn hit(&self, headers: &Headers, features: u8) -> Option<RuleRow>
-        ensures { result ≡ hit self.now (questions features headers.now) }
-    {
-        if features & ETHERNET == 0 {
-            return None;
-        }
-        let target = asked(&self.rows, RuleKey::ether(headers.target), TARGET);
-        target.or_else(|| asked(&self.rows, RuleKey::ether(headers.source), SOURCE))
+        verdict(&self.rows, headers, policy, features)
     }
 }
 
@@ -128,76 +137,9 @@ fn place_of(rows: &[RuleRow], key: RuleKey) -> Option<usize>
     rows.iter().position(|row| row.key == key)
 }
 
-/// The row with this key that has this flag.
-fn asked(rows: &[RuleRow], key: RuleKey, flag: u8) -> Option<RuleRow>
-    ensures { result ≡ find (answers (record { key = key; flag = flag })) rows.now }
+/// The place of the row with the key that has one of the flags.
+fn place_of_rule(rows: &[RuleRow], key: RuleKey, flags: u8) -> Option<usize>
+    ensures { result ≡ position (answers key flags) rows.now }
 {
-    rows.iter().copied().find(|row| row.answers(key, flag))
-}
-
-#[cfg(test)]
-mod tests {
-    use super::*;
-    use crate::rule::RuleKind;
-    use std::test::Fail;
-    use xio::Action;
-
-    #[test]
-    fn adds_flags_to_the_row_of_a_key(rt: HostRuntime) -> Result<(), Fail> {
-        let key = RuleKey::ether(0x0200_0000_0001);
-        let other = RuleKey {
-            kind: RuleKind::Port,
-            value: 0x0200_0000_0001,
-        };
-        let mut rules = Rules::new(rt.alloc())?;
-        assert_eq!(rt; rules.len(), 0);
-        assert_eq!(rt; rules.add(key, 1, 7), Ok(7));
-        assert_eq!(rt; rules.add(key, 2, 8), Ok(7));
-        assert!(rt; !rules.contains(other));
-        assert_eq!(rt; rules.add(other, RuleKind::Port.all_flags(), 9), Ok(9));
-        assert_eq!(rt; rules.len(), 2);
-        assert_eq!(rt;
-            rules.row(0),
-            RuleRow {
-                key,
-                flags: 3,
-                number: 7
-            }
-        );
-        assert_eq!(rt;
-            rules.row(1),
-            RuleRow {
-                key: other,
-                flags: 15,
-                number: 9
-            }
-        );
-        assert!(rt; rules.contains(key));
-        Ok(())
-    }
-
-    #[test]
-    fn finds_the_target_of_a_row(rt: HostRuntime) -> Result<(), Fail> {
-        let mut rules = Rules::new(rt.alloc())?;
-        assert_eq!(rt; rules.add(RuleKey::ether(1), TARGET, 5), Ok(5));
-        let named = |action| FilterEnd::Hit { rule: 5, action };
-        let missed = |action| FilterEnd::Miss { action };
-        // source, target, policy, features
-        let rows = [
-            (2, 1, Policy::Allow, ETHERNET, named(Action::Drop)),
-            (2, 1, Policy::Deny, ETHERNET, named(Action::Pass)),
-            (1, 2, Policy::Allow, ETHERNET, missed(Action::Pass)),
-            (1, 2, Policy::Deny, ETHERNET, missed(Action::Drop)),
-            (2, 1, Policy::Allow, 15, missed(Action::Pass)),
-        ];
-        for (source, target, policy, features, want) in rows {
-            let header = Headers {
-                source,
-                target,
-                ether_type: 0x88B5,
-            };
-            assert_eq!(rt; rules.verdict(&header, policy, features), want);
-        }
-        Ok(())
-    }
+    rows.iter().position(|row| row.answers(key, flags))
 }

@@ -1,10 +1,142 @@
-ghost use Rattle.std.specs.Prelude.{◌≡◌};
+//! The questions of a filter about a frame, and what their answers make of it.
 
+ghost use Rattle.std.specs.Prelude.{◌≡◌, [], ◌∷◌, find};
+ghost use Rattle.filter_rules.specs.Rule.{answers};
+ghost use Rattle.filter_rules.specs.Verdict.{Ask, ethernet_items, net_items, port_items, decided, verdict};
+
+use crate::policy::Policy;
+use crate::rule::{RuleKey, RuleRow};
+use crate::{features, flags};
+use net_headers::{Headers, Net, Ports};
 use xio::Action;
 
-/// What a filter makes of a frame: the row that names it, or that none does, and the action.
+/// What a filter makes of a frame.
 #[derive(Clone, Copy, Debug, PartialEq, Eq)]
 pub enum FilterEnd {
+    /// The row of this number names it.
     Hit { rule: u32, action: Action },
+    /// No row names it.
     Miss { action: Action },
+    /// It ends inside a header that the filter asks for.
+    Cut,
+}
+
+/// A row that has this key and this flag is asked for.
+#[derive(Clone, Copy)]
+struct Question {
+    key: RuleKey,
+    flag: u8,
+}
+
+/// What a filter of this policy and these features makes of a frame with these headers.
+pub fn verdict(rows: &[RuleRow], headers: &Headers, policy: Policy, features: u8) -> FilterEnd
+    ensures { result ≡ verdict rows.now headers.now policy features }
+{
+    let decided = by_ethernet(rows, headers, policy, features)
+        .or_else(|| by_net(rows, headers.net, policy, features))
+        .or_else(|| by_ports(rows, headers.ports, policy, features));
+    decided.unwrap_or(FilterEnd::Miss {
+        action: policy.miss(),
+    })
+}
+
+fn by_ethernet(
+    rows: &[RuleRow],
+    headers: &Headers,
+    policy: Policy,
+    features: u8,
+) -> Option<FilterEnd>
+    ensures { result ≡ decided rows.now policy (ethernet_items features headers.now) }
+{
+    if features & features::ETHERNET == 0 {
+        return None;
+    }
+    let target = RuleKey::ether(headers.target);
+    by_addresses(rows, policy, target, RuleKey::ether(headers.source))
+}
+
+fn by_net(rows: &[RuleRow], net: Net, policy: Policy, features: u8) -> Option<FilterEnd>
+    ensures { result ≡ decided rows.now policy (net_items features net) }
+{
+    match net {
+        Net::Cut if features & features::IP != 0 => Some(FilterEnd::Cut),
+        Net::V4 { source, target } if features & features::IPV4 != 0 => {
+            by_addresses(rows, policy, RuleKey::ip4(target), RuleKey::ip4(source))
+        }
+        Net::V6 { source, target } if features & features::IPV6 != 0 => {
+            by_addresses(rows, policy, RuleKey::ip6(target), RuleKey::ip6(source))
+        }
+        _ => None,
+    }
+}
+
+fn by_ports(rows: &[RuleRow], ports: Ports, policy: Policy, features: u8) -> Option<FilterEnd>
+    ensures { result ≡ decided rows.now policy (port_items features ports) }
+{
+    match ports {
+        Ports::Cut if features & features::PORTS != 0 => Some(FilterEnd::Cut),
+        Ports::Tcp { source, target } if features & features::TCP != 0 => {
+            let target = Question {
+                key: RuleKey::port(target),
+                flag: flags::TARGET_TCP,
+            };
+            let source = Question {
+                key: RuleKey::port(source),
+                flag: flags::SOURCE_TCP,
+            };
+            by_pair(rows, policy, target, source)
+        }
+        Ports::Udp { source, target } if features & features::UDP != 0 => {
+            let target = Question {
+                key: RuleKey::port(target),
+                flag: flags::TARGET_UDP,
+            };
+            let source = Question {
+                key: RuleKey::port(source),
+                flag: flags::SOURCE_UDP,
+            };
+            by_pair(rows, policy, target, source)
+        }
+        _ => None,
+    }
+}
+
+fn by_addresses(
+    rows: &[RuleRow],
+    policy: Policy,
+    target: RuleKey,
+    source: RuleKey,
+) -> Option<FilterEnd>
+    ensures { result ≡ decided rows.now policy (Ask target 2 ∷ Ask source 1 ∷ []) }
+{
+    let target = Question {
+        key: target,
+        flag: flags::TARGET,
+    };
+    let source = Question {
+        key: source,
+        flag: flags::SOURCE,
+    };
+    by_pair(rows, policy, target, source)
+}
+
+/// What the row makes of the frame that answers the first of two questions that a row answers.
+fn by_pair(rows: &[RuleRow], policy: Policy, first: Question, second: Question) -> Option<FilterEnd>
+    ensures { result ≡ decided rows.now policy
+        (Ask first.key first.flag ∷ Ask second.key second.flag ∷ []) }
+{
+    let row = asked(rows, first).or_else(|| asked(rows, second))?;
+    Some(FilterEnd::Hit {
+        rule: row.number,
+        action: policy.hit(),
+    })
+}
+
+/// The first row that answers.
+fn asked(rows: &[RuleRow], question: Question) -> Option<RuleRow>
+    ensures { result ≡ find (answers question.key question.flag) rows.now }
+{
+    rows.iter()
+        .copied()
+        .find(|row| row.answers(question.key, question.flag))
 }
