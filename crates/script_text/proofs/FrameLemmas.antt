@@ -6,12 +6,12 @@ use Rattle.hex.proofs.HexLemmas.{decode_of-ok}
 use Rattle.std.specs.Result.{result_ok}
 use Rattle.std.specs.Prelude.{option_and_then, if◌then◌else◌}
 use Rattle.std.proofs.lemmas.Grind.{common_steps}
-use Rattle.script_text.specs.Frames.{frame_of, is_frame}
+use Rattle.script_text.specs.Frames.{frame_of, has_frame_size}
 
 -- a frame has two digits a byte, so a word of another length is none
 pub frame_of-other : (word : List ℕ) → (length word < 28) ⊎ (31744 < length word) → frame_of word ≡ None
 frame_of-other word other = decoded (decode_of word) refl
   where
-    decoded : (r : Result (List ℕ) FromHexError) → decode_of word ≡ r → option_and_then (λ bytes. if is_frame bytes then Some bytes else None) (result_ok r) ≡ None
+    decoded : (r : Result (List ℕ) FromHexError) → decode_of word ≡ r → option_and_then (λ bytes. if has_frame_size bytes then Some bytes else None) (result_ok r) ≡ None
     decoded (Ok bytes) is = let twice = (decode_of-ok word bytes is).2 in grind (arith, twice, other)
     decoded (Err e) is = refl

@@ -1,4 +1,4 @@
-pub mod AddressLemmas
+pub mod EthernetLemmas
 pub mod FrameLemmas
 pub mod HandedLemmas
 pub mod LineLemmas

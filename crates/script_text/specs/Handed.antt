@@ -1,9 +1,12 @@
--- What holds of each line of a script that is read.
-use Rattle.std.specs.Prelude.{ℕ, ◌&&◌, Bool, true, nat_lt, nat_le, List}
+-- What holds of a script that is read.
+use Rattle.std.specs.Prelude.{◌≡◌, ℕ, ◌≤◌, ◌&&◌, Bool, true, nat_lt, nat_le, List, length}
+use Rattle.std.specs.List.{list_all}
 use Rattle.filter_rules.specs.Rule.{all_flags}
 use Rattle.xdp_state.specs.declared.command.Command.{Command}
 use Rattle.xdp_state.specs.declared.command.Command.TheVariants.{FilterRule}
 use Rattle.script_text.specs.Frames.{has_frame_size}
+use Rattle.script_text.specs.Interfaces.{queue_count}
+use Rattle.script_text.specs.declared.script.Script.{Script}
 use Rattle.script_text.specs.declared.what.Line.{Line}
 use Rattle.script_text.specs.declared.what.What.{What}
 use Rattle.script_text.specs.declared.what.What.TheVariants as what
@@ -35,3 +38,10 @@ asks_flags _ = true
 -- a line with a rule has some flags of the rule's kind
 abbrev pub has_flags : Line → Bool
 has_flags line = asks_flags line.what
+
+pub record IsSound (script : Script) : Type 0 where
+  pub frames : list_all has_frame script.lines ≡ true
+  pub processors : list_all (has_processor (queue_count script.interfaces)) script.lines ≡ true
+  pub flags : list_all has_flags script.lines ≡ true
+  pub interfaces : length script.interfaces ≤ 8
+  pub queues : queue_count script.interfaces ≤ 8

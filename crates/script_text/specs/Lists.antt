@@ -6,8 +6,8 @@ use Rattle.filter_rules.specs.declared.policy.Policy.TheVariants.{Allow, Deny}
 use Rattle.xdp_state.specs.declared.attachment.Mode.{Mode}
 use Rattle.xdp_state.specs.declared.attachment.Mode.TheVariants.{Native, Skb}
 use Rattle.script_text.specs.Words.{parts_of}
-use Rattle.script_text.specs.declared.lists.WordSet.{WordSet}
-use Rattle.script_text.specs.declared.lists.WordSet.TheVariants.{Directions, Protocols, Features}
+use Rattle.script_text.specs.declared.word_lists.WordSet.{WordSet}
+use Rattle.script_text.specs.declared.word_lists.WordSet.TheVariants.{Directions, Protocols, Features}
 
 -- one of three words; `unspecified` is native
 abbrev pub mode_of : List ℕ → Option Mode

@@ -4,7 +4,7 @@ use Rattle.std.specs.Str.{bytes_eq}
 use Rattle.script_text.specs.Lists.{mode_of, policy_of, features_of, list_of}
 use Rattle.script_text.specs.Readings.{◌>>=◌, found}
 use Rattle.script_text.specs.Words.{is_option}
-use Rattle.script_text.specs.declared.lists.WordSet.TheVariants as words
+use Rattle.script_text.specs.declared.word_lists.WordSet.TheVariants as words
 use Rattle.script_text.specs.declared.options.Given.{Given}
 use Rattle.script_text.specs.declared.options.Role.{Role}
 use Rattle.script_text.specs.declared.options.Role.TheVariants as role
@@ -29,25 +29,32 @@ verb_of word =
 abbrev pub is_either : List ℕ → List ℕ → List ℕ → Bool
 is_either short long word = bytes_eq word short || bytes_eq word long
 
--- the options of a rule on an address
+-- the options of each verb
+abbrev pub load_option : List ℕ → Role
+load_option word =
+    if is_either (codes "-m") (codes "--mode") word then role.Setting setting.Mode
+    else if is_either (codes "-p") (codes "--policy") word then role.Setting setting.Policy
+    else if is_either (codes "-f") (codes "--features") word then role.Setting setting.Features
+    else role.Unknown
+
+abbrev pub unload_option : List ℕ → Role
+unload_option word =
+    if is_either (codes "-k") (codes "--keep-maps") word then role.Switch switch.Keep else role.Unknown
+
 abbrev pub address_option : List ℕ → Role
 address_option word =
     if is_either (codes "-m") (codes "--mode") word then role.Setting setting.Directions
     else if is_either (codes "-r") (codes "--remove") word then role.Switch switch.Remove
     else role.Unknown
 
--- a verb's options
+abbrev pub port_option : List ℕ → Role
+port_option word =
+    if is_either (codes "-p") (codes "--proto") word then role.Setting setting.Protocols else address_option word
+
 unfoldable pub option_of : Verb → List ℕ → Role
-option_of Load word =
-    if is_either (codes "-m") (codes "--mode") word then role.Setting setting.Mode
-    else if is_either (codes "-p") (codes "--policy") word then role.Setting setting.Policy
-    else if is_either (codes "-f") (codes "--features") word then role.Setting setting.Features
-    else role.Unknown
-option_of Unload word =
-    if is_either (codes "-k") (codes "--keep-maps") word then role.Switch switch.Keep else role.Unknown
-option_of Port word =
-    if is_either (codes "-p") (codes "--proto") word then role.Setting setting.Protocols
-    else address_option word
+option_of Load word = load_option word
+option_of Unload word = unload_option word
+option_of Port word = port_option word
 option_of Ip word = address_option word
 option_of Ether word = address_option word
 option_of Status word = role.Unknown
@@ -97,6 +104,9 @@ pub record Arranged : Type 0 where
   pub given : Given
   pub own : Option (List ℕ)
 
+abbrev pub arrangement : Given → Option (List ℕ) → Arranged
+arrangement given own = record { given = given; own = own }
+
 abbrev pub with_given : Arranged → Given → Result Arranged ℕ
 with_given so_far given = Ok (record so_far { given = given })
 
@@ -118,9 +128,9 @@ arranged_behind verb so_far [] = Ok so_far
 arranged_behind verb so_far (word ∷ []) = with_word so_far (role_of verb word) word
 arranged_behind verb so_far (word ∷ next ∷ words) =
     if has_value (role_of verb word)
-    then with_value so_far (role_of verb word) next >>= λ so_far. arranged_behind verb so_far words
-    else with_word so_far (role_of verb word) word >>= λ so_far. arranged_behind verb so_far (next ∷ words)
+    then with_value so_far (role_of verb word) next >>= (λ so_far. arranged_behind verb so_far words)
+    else with_word so_far (role_of verb word) word >>= (λ so_far. arranged_behind verb so_far (next ∷ words))
 
 -- the words behind a verb
 unfoldable pub arranged : Verb → List (List ℕ) → Result Arranged ℕ
-arranged verb words = arranged_behind verb (record { given = none_given; own = None }) words
+arranged verb words = arranged_behind verb (arrangement none_given None) words

@@ -11,7 +11,7 @@
 -- 10  a frame isn't pairs of hexadecimal digits, of 14 to 15,872 bytes
 -- 11  a choice or a list has a word that is none of its words, an empty word, or a word twice
 -- 12  an address isn't in its form
-use Rattle.std.specs.Prelude.{◌≡◌, ℕ, ◌+◌, ◌==◌, ◌||◌, Bool, true, false, nat_lt, List, [], ◌∷◌, ◌++◌, length, codes, Result, Ok, Err, if◌then◌else◌, ⊤}
+use Rattle.std.specs.Prelude.{◌≡◌, ℕ, ◌+◌, ◌==◌, ◌||◌, Bool, not, nat_lt, List, [], ◌∷◌, ◌++◌, length, codes, Result, Ok, Err, if◌then◌else◌, ⊤}
 use Rattle.std.specs.List.{list_all}
 use Rattle.std.specs.Str.{bytes_eq}
 use Rattle.std.specs.Str.Lines.{lines}
@@ -58,13 +58,12 @@ barrier_line _ = Err 3
 abbrev pub as_command : Command → Result What ℕ
 as_command command = Ok (what.Command command)
 
--- the script with what a command line of the number says
-unfoldable pub read_command : Script → ℕ → List ℕ → List (List ℕ) → Result Script ℕ
-read_command script number command words =
-    if bytes_eq command (codes "interface") then interface_line script words
-    else if bytes_eq command (codes "xdp-filter") then filter_line words >>= as_command >>= with_line script number
-    else if bytes_eq command (codes "packet") then packet_line script.interfaces words >>= with_line script number
-    else if bytes_eq command (codes "barrier") then barrier_line words >>= with_line script number
+-- what a line asks, by its first word and those behind it
+unfoldable pub what_of : List Interface → List ℕ → List (List ℕ) → Result What ℕ
+what_of interfaces command words =
+    if bytes_eq command (codes "xdp-filter") then filter_line words >>= as_command
+    else if bytes_eq command (codes "packet") then packet_line interfaces words
+    else if bytes_eq command (codes "barrier") then barrier_line words
     else Err 2
 
 -- blank lines and comments are passed over, and no rule is tested on them
@@ -72,8 +71,9 @@ abbrev pub read_words : Script → ℕ → Bool → List (List ℕ) → Result S
 read_words script number printable [] = Ok script
 read_words script number printable (command ∷ words) =
     if is_comment command then Ok script
-    else if printable then read_command script number command words
-    else Err 1
+    else if not printable then Err 1
+    else if bytes_eq command (codes "interface") then interface_line script words
+    else what_of script.interfaces command words >>= with_line script number
 
 -- the script with what the line of the number says
 unfoldable pub read_line : Script → ℕ → List ℕ → Result Script ℕ

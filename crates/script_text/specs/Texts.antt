@@ -2,8 +2,8 @@
 use Rattle.std.specs.Prelude.{ℕ, ◌/◌, ◌%◌, ◌^◌, ◌*◌, ◌==◌, bit_and, List, [], ◌∷◌, ◌++◌, length, sum, slice_index, codes, flat_map, if◌then◌else◌}
 use Rattle.std.specs.Fmt.{decimal}
 use Rattle.hex.specs.Hex.{encode_lower}
-use Rattle.xdp_state.specs.declared.command.Reason.{Reason}
-use Rattle.xdp_state.specs.declared.command.Reason.TheVariants.{NoInterface, FilterThere, FilterNotThere, FeatureMissing, RulesFull, NoSuchRule}
+use Rattle.xdp_state.specs.declared.judgement.Reason.{Reason}
+use Rattle.xdp_state.specs.declared.judgement.Reason.TheVariants.{NoInterface, FilterThere, FilterNotThere, FeatureMissing, RulesFull, NoSuchRule}
 use Rattle.xdp_state.specs.declared.tally.Tally.{Tally}
 use Rattle.script_text.specs.declared.outcome.Outcome.{Outcome}
 use Rattle.script_text.specs.declared.outcome.Outcome.TheVariants as outcome

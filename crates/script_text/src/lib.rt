@@ -1,13 +1,16 @@
 //! The script that the tool runs, read from bytes, and the texts that it prints.
 #![tactic(auto)]
 
-mod address;
 mod arranged;
+mod ethernet;
 mod filter;
 mod frame;
 mod interfaces;
+mod ip4;
+mod ip6;
+mod line;
 mod lines;
-mod lists;
+mod word_lists;
 mod name;
 mod numbers;
 mod options;
@@ -24,6 +27,3 @@ pub use outcome::{Outcome, end_text, outcome_text};
 pub use processor::processor_line;
 pub use script::{Script, ScriptEnd, read_script};
 pub use what::{Line, LineList, What};
-
-#[cfg(test)]
-mod tests;

@@ -1,7 +1,7 @@
 ghost use Rattle.std.specs.Prelude.{◌≡◌};
-ghost use Rattle.script_text.specs.Options.{verb_of, is_either, address_option, option_of, role_of, none_given, given_value, given_switch};
+ghost use Rattle.script_text.specs.Options.{verb_of, is_either, load_option, unload_option, address_option, port_option, option_of, role_of, none_given, given_value, given_switch};
 
-use crate::lists::{WordSet, features_of, list_of, mode_of, policy_of};
+use crate::word_lists::{WordSet, features_of, list_of, mode_of, policy_of};
 use crate::reading::Rule;
 use crate::words::is_option;
 use filter_rules::Policy;
@@ -65,35 +65,73 @@ const BAD_VALUE: Rule = 11;
 pub fn verb_of(word: &[u8]) -> Option<Verb>
     ensures { result ≡ verb_of word.now }
 {
-    match word {
-        b"load" => Some(Verb::Load),
-        b"unload" => Some(Verb::Unload),
-        b"port" => Some(Verb::Port),
-        b"ip" => Some(Verb::Ip),
-        b"ether" => Some(Verb::Ether),
-        b"status" => Some(Verb::Status),
-        _ => None,
+    if word == b"load".as_slice() {
+        Some(Verb::Load)
+    } else if word == b"unload".as_slice() {
+        Some(Verb::Unload)
+    } else if word == b"port".as_slice() {
+        Some(Verb::Port)
+    } else if word == b"ip".as_slice() {
+        Some(Verb::Ip)
+    } else if word == b"ether".as_slice() {
+        Some(Verb::Ether)
+    } else if word == b"status".as_slice() {
+        Some(Verb::Status)
+    } else {
+        None
     }
 }
 
-fn load_option(word: &[u8]) -> Role
-    ensures { result ≡ option_of Verb.Load word.now }
+/// Whether the word is an option's short or long form.
+fn is_either(short: &[u8], long: &[u8], word: &[u8]) -> bool
+    ensures { result ≡ is_either short.now long.now word.now }
 {
-    match word {
-        b"-m" | b"--mode" => Role::Setting(Setting::Mode),
-        b"-p" | b"--policy" => Role::Setting(Setting::Policy),
-        b"-f" | b"--features" => Role::Setting(Setting::Features),
-        _ => Role::Unknown,
+    word == short || word == long
+}
+
+fn load_option(word: &[u8]) -> Role
+    ensures { result ≡ load_option word.now }
+{
+    if is_either(b"-m", b"--mode", word) {
+        Role::Setting(Setting::Mode)
+    } else if is_either(b"-p", b"--policy", word) {
+        Role::Setting(Setting::Policy)
+    } else if is_either(b"-f", b"--features", word) {
+        Role::Setting(Setting::Features)
+    } else {
+        Role::Unknown
+    }
+}
+
+fn unload_option(word: &[u8]) -> Role
+    ensures { result ≡ unload_option word.now }
+{
+    if is_either(b"-k", b"--keep-maps", word) {
+        Role::Switch(Switch::Keep)
+    } else {
+        Role::Unknown
     }
 }
 
 fn address_option(word: &[u8]) -> Role
     ensures { result ≡ address_option word.now }
 {
-    match word {
-        b"-m" | b"--mode" => Role::Setting(Setting::Directions),
-        b"-r" | b"--remove" => Role::Switch(Switch::Remove),
-        _ => Role::Unknown,
+    if is_either(b"-m", b"--mode", word) {
+        Role::Setting(Setting::Directions)
+    } else if is_either(b"-r", b"--remove", word) {
+        Role::Switch(Switch::Remove)
+    } else {
+        Role::Unknown
+    }
+}
+
+fn port_option(word: &[u8]) -> Role
+    ensures { result ≡ port_option word.now }
+{
+    if is_either(b"-p", b"--proto", word) {
+        Role::Setting(Setting::Protocols)
+    } else {
+        address_option(word)
     }
 }
 
@@ -102,12 +140,12 @@ fn address_option(word: &[u8]) -> Role
 fn option_of(verb: Verb, word: &[u8]) -> Role
     ensures { result ≡ option_of verb word.now }
 {
-    match (verb, word) {
-        (Verb::Load, _) => load_option(word),
-        (Verb::Unload, b"-k" | b"--keep-maps") => Role::Switch(Switch::Keep),
-        (Verb::Port, b"-p" | b"--proto") => Role::Setting(Setting::Protocols),
-        (Verb::Port | Verb::Ip | Verb::Ether, _) => address_option(word),
-        (Verb::Unload | Verb::Status, _) => Role::Unknown,
+    match verb {
+        Verb::Load => load_option(word),
+        Verb::Unload => unload_option(word),
+        Verb::Port => port_option(word),
+        Verb::Ip | Verb::Ether => address_option(word),
+        Verb::Status => Role::Unknown,
     }
 }
 

@@ -1,10 +1,12 @@
-ghost use Rattle.std.specs.Prelude.{◌≡◌, true, IfOk};
+ghost use Rattle.std.specs.Prelude.{◌≡◌, ◌≤◌, true, length, IfOk};
 ghost use Rattle.std.specs.List.{list_all};
-ghost use Rattle.script_text.specs.Handed.{has_frame};
+ghost use Rattle.script_text.specs.Handed.{has_frame, has_processor, has_flags};
+ghost use Rattle.script_text.specs.Interfaces.{queue_count};
 ghost use Rattle.script_text.specs.Script.{script_of, Agrees};
 
 use crate::lines::{has_more_lines, split_line};
-use crate::reading::{LineEnd, read_line};
+use crate::line::read_line;
+use crate::reading::LineEnd;
 use crate::what::LineList;
 use std::alloc::Global;
 use xdp_state::InterfaceList;
@@ -32,6 +34,11 @@ pub enum ScriptEnd {
 pub fn read_script(alloc: Global, bytes: &[u8]) -> Result<Script, ScriptEnd>
     ensures script { Agrees result (script_of bytes.now) }
     ensures frames { IfOk result (λ script. list_all has_frame script.lines ≡ true) }
+    ensures processors { IfOk result (λ script. list_all (has_processor (queue_count script.interfaces)) script.lines ≡ true) }
+    ensures rules { IfOk result (λ script. list_all has_flags script.lines ≡ true) }
+    ensures lines { IfOk result (λ script. length script.lines ≤ 65536) }
+    ensures interfaces { IfOk result (λ script. length script.interfaces ≤ 8) }
+    ensures queues { IfOk result (λ script. queue_count script.interfaces ≤ 8) }
 {
     if has_more_lines(bytes, MOST_LINES) {
         return Err(ScriptEnd::TooManyLines);

@@ -1,6 +1,6 @@
 ghost use Rattle.std.specs.Prelude.{◌≡◌, ◌≢◌, [], ◌∷◌, length, Some, IfSome, IfNone, option_map};
 ghost use Rattle.hex.specs.Hex.{hex_digit_value};
-ghost use Rattle.script_text.specs.Addresses.{octet_of, octets_of, address_of};
+ghost use Rattle.script_text.specs.Addresses.{octet_of, octets_of, ether_of};
 
 use byteorder::{BigEndian, ByteOrder};
 
@@ -47,8 +47,8 @@ fn only_octet(text: &[u8]) -> Option<u8>
 }
 
 /// The number of an Ethernet address, six pairs of hexadecimal digits with colons between; its first byte is the highest.
-pub fn address(word: &[u8]) -> Option<u64>
-    ensures { result ≡ address_of word.now }
+pub fn ether_of(word: &[u8]) -> Option<u64>
+    ensures { result ≡ ether_of word.now }
 {
     let mut octets = [0; 6];
     let mut rest = word;

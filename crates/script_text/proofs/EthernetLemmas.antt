@@ -4,7 +4,7 @@ use Rattle.std.specs.Prelude.{option_and_then, option_map, if◌then◌else◌, 
 use Rattle.byteorder.specs.Endian.{big_number}
 use Rattle.std.proofs.lemmas.List.{take_all, take_more_set, length-set}
 use Rattle.std.proofs.lemmas.Grind.{common_steps}
-use Rattle.script_text.specs.Addresses.{octet_of, octets_of, address_of}
+use Rattle.script_text.specs.Addresses.{octet_of, octets_of, ether_of}
 
 -- the number of six octets
 abbrev pub number_of_six : List ℕ → Option ℕ

@@ -30,33 +30,42 @@ impl WordSet {
 fn direction(word: &[u8]) -> Option<u8>
     ensures { result ≡ bit_of WordSet.Directions word.now }
 {
-    match word {
-        b"src" => Some(1),
-        b"dst" => Some(2),
-        _ => None,
+    if word == b"src".as_slice() {
+        Some(1)
+    } else if word == b"dst".as_slice() {
+        Some(2)
+    } else {
+        None
     }
 }
 
 fn protocol(word: &[u8]) -> Option<u8>
     ensures { result ≡ bit_of WordSet.Protocols word.now }
 {
-    match word {
-        b"tcp" => Some(1),
-        b"udp" => Some(2),
-        _ => None,
+    if word == b"tcp".as_slice() {
+        Some(1)
+    } else if word == b"udp".as_slice() {
+        Some(2)
+    } else {
+        None
     }
 }
 
 fn feature(word: &[u8]) -> Option<u8>
     ensures { result ≡ bit_of WordSet.Features word.now }
 {
-    match word {
-        b"tcp" => Some(1),
-        b"udp" => Some(2),
-        b"ipv4" => Some(4),
-        b"ipv6" => Some(8),
-        b"ethernet" => Some(16),
-        _ => None,
+    if word == b"tcp".as_slice() {
+        Some(1)
+    } else if word == b"udp".as_slice() {
+        Some(2)
+    } else if word == b"ipv4".as_slice() {
+        Some(4)
+    } else if word == b"ipv6".as_slice() {
+        Some(8)
+    } else if word == b"ethernet".as_slice() {
+        Some(16)
+    } else {
+        None
     }
 }
 
@@ -64,20 +73,26 @@ fn feature(word: &[u8]) -> Option<u8>
 pub fn mode_of(word: &[u8]) -> Option<Mode>
     ensures { result ≡ mode_of word.now }
 {
-    match word {
-        b"native" | b"unspecified" => Some(Mode::Native),
-        b"skb" => Some(Mode::Skb),
-        _ => None,
+    if word == b"native".as_slice() {
+        Some(Mode::Native)
+    } else if word == b"skb".as_slice() {
+        Some(Mode::Skb)
+    } else if word == b"unspecified".as_slice() {
+        Some(Mode::Native)
+    } else {
+        None
     }
 }
 
 pub fn policy_of(word: &[u8]) -> Option<Policy>
     ensures { result ≡ policy_of word.now }
 {
-    match word {
-        b"allow" => Some(Policy::Allow),
-        b"deny" => Some(Policy::Deny),
-        _ => None,
+    if word == b"allow".as_slice() {
+        Some(Policy::Allow)
+    } else if word == b"deny".as_slice() {
+        Some(Policy::Deny)
+    } else {
+        None
     }
 }
 
