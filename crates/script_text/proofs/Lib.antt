@@ -1,5 +1,9 @@
+pub mod ArrangedLemmas
 pub mod EthernetLemmas
 pub mod FrameLemmas
 pub mod HandedLemmas
+pub mod Ip6Lemmas
 pub mod LineLemmas
+pub mod NumberLemmas
+pub mod PartLemmas
 pub mod WordLemmas

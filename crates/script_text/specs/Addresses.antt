@@ -1,5 +1,5 @@
 -- The addresses of filter rules, each the number of its bytes with the first one highest.
-use Rattle.std.specs.Prelude.{ℕ, ◌+◌, ◌-◌, ◌*◌, ◌^◌, ◌==◌, ◌&&◌, nat_lt, List, [], ◌∷◌, length, Option, Some, None, option_and_then, if◌then◌else◌}
+use Rattle.std.specs.Prelude.{ℕ, ◌+◌, ◌-◌, ◌*◌, ◌^◌, ◌==◌, ◌&&◌, nat_lt, List, [], ◌∷◌, length, take, drop, Option, Some, None, option_and_then, if◌then◌else◌}
 use Rattle.std.specs.Option.{option_map}
 use Rattle.byteorder.specs.Endian.{big_number}
 use Rattle.hex.specs.Hex.{hex_digit_value}
@@ -54,16 +54,17 @@ groups_behind groups (part ∷ parts) =
     if groups.count == 8 then None
     else option_and_then (λ group. groups_behind (record { count = groups.count + 1; number = groups.number * 65536 + group }) parts) (group_of part)
 
+-- no groups
+abbrev pub no_groups : Groups
+no_groups = record { count = 0; number = 0 }
+
 -- groups with colons between them, or none
 unfoldable pub groups_of : List ℕ → Option Groups
-groups_of [] = Some (record { count = 0; number = 0 })
-groups_of (b ∷ text) = groups_behind (record { count = 0; number = 0 }) (parts_of 58 (b ∷ text))
+groups_of text = if length text == 0 then Some no_groups else groups_behind no_groups (parts_of 58 text)
 
--- what stands before the first `::` and behind it
-abbrev pub gap_of : List ℕ → Option (List ℕ × List ℕ)
-gap_of (a ∷ b ∷ more) =
-    if (a == 58) && (b == 58) then Some ([], more)
-    else option_map (λ sides. (a ∷ sides.0, sides.1)) (gap_of (b ∷ more))
+-- the place of the first `::`
+abbrev pub gap_of : List ℕ → Option ℕ
+gap_of (a ∷ b ∷ more) = if (a == 58) && (b == 58) then Some 0 else option_map (λ place. place + 1) (gap_of (b ∷ more))
 gap_of _ = None
 
 -- all eight groups
@@ -75,10 +76,10 @@ abbrev pub sides_of : Groups → Groups → Option ℕ
 sides_of high low =
     if nat_lt (high.count + low.count) 8 then Some (high.number * 65536 ^ (8 - high.count) + low.number) else None
 
-abbrev pub ip6_around : List ℕ → Option (List ℕ × List ℕ) → Option ℕ
+abbrev pub ip6_around : List ℕ → Option ℕ → Option ℕ
 ip6_around word None = option_and_then whole_of (groups_of word)
-ip6_around word (Some sides) =
-    option_and_then (λ high. option_and_then (sides_of high) (groups_of sides.1)) (groups_of sides.0)
+ip6_around word (Some place) =
+    option_and_then (λ high. option_and_then (sides_of high) (groups_of (drop (place + 2) word))) (groups_of (take place word))
 
 -- an IPv6 address (RFC 4291, 2.2, without dotted tails): eight groups with colons between them, where one `::` may stand for
 -- one or more groups of zero

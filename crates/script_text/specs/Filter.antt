@@ -1,5 +1,5 @@
 -- The lines of `xdp-filter`, by the words behind the first.
-use Rattle.std.specs.Prelude.{ℕ, ◌+◌, ◌*◌, ◌==◌, bit_and, List, [], ◌∷◌, Option, Some, None, Result, Ok, Err, if◌then◌else◌}
+use Rattle.std.specs.Prelude.{ℕ, ◌+◌, ◌*◌, List, [], ◌∷◌, Option, Some, None, Result, Ok, Err, if◌then◌else◌}
 use Rattle.std.specs.Option.{unwrap_or, option_map, option_or}
 use Rattle.filter_rules.specs.declared.policy.Policy.TheVariants.{Allow}
 use Rattle.filter_rules.specs.declared.rule.RuleKey.{RuleKey}
@@ -16,6 +16,10 @@ use Rattle.script_text.specs.Readings.{◌>>=◌, both, found, keeps}
 use Rattle.script_text.specs.declared.options.Given.{Given}
 use Rattle.script_text.specs.declared.options.Verb.{Verb}
 use Rattle.script_text.specs.declared.options.Verb.TheVariants.{Load, Unload, Port, Ip, Ether, Status}
+use Rattle.script_text.specs.declared.word_lists.Directions.{Directions}
+use Rattle.script_text.specs.declared.word_lists.Directions.TheVariants as direction
+use Rattle.script_text.specs.declared.word_lists.Protocols.{Protocols}
+use Rattle.script_text.specs.declared.word_lists.Protocols.TheVariants as protocol
 
 -- what an option gives, or what holds without it
 abbrev pub or_else : {A : Type 0} → Option (Result A ℕ) → A → Result A ℕ
@@ -30,10 +34,23 @@ load_of name given =
 unfoldable pub unload_of : List ℕ → Given → Result Command ℕ
 unload_of name given = keeps 5 (is_name name) >>= λ _. Ok (FilterUnload name given.keep)
 
--- all pairs of a direction and a protocol: source and TCP 1, source and UDP 2, target and TCP 4, target and UDP 8
-abbrev pub port_flags : ℕ → ℕ → ℕ
-port_flags directions protocols =
-    (if bit_and directions 1 == 0 then 0 else protocols) + (if bit_and directions 2 == 0 then 0 else 4 * protocols)
+-- source 1, target 2
+abbrev pub direction_flags : Directions → ℕ
+direction_flags direction.Source = 1
+direction_flags direction.Target = 2
+direction_flags direction.Both = 3
+
+-- of a source TCP 1 and UDP 2
+abbrev pub protocol_flags : Protocols → ℕ
+protocol_flags protocol.Tcp = 1
+protocol_flags protocol.Udp = 2
+protocol_flags protocol.Both = 3
+
+-- all pairs of a direction and a protocol: a target's flags are four times those of a source
+abbrev pub port_flags : Directions → Protocols → ℕ
+port_flags direction.Source protocols = protocol_flags protocols
+port_flags direction.Target protocols = 4 * protocol_flags protocols
+port_flags direction.Both protocols = protocol_flags protocols + 4 * protocol_flags protocols
 
 abbrev pub rule_of : RuleKind → ℕ → ℕ → Given → Result Command ℕ
 rule_of kind value flags given = Ok (FilterRule (record { kind = kind; value = value }) flags given.remove)
@@ -41,13 +58,14 @@ rule_of kind value flags given = Ok (FilterRule (record { kind = kind; value = v
 -- the target's port, of both protocols, where no option says otherwise
 unfoldable pub port_of : List ℕ → Given → Result Command ℕ
 port_of port given =
-    both (found 4 (number_within 0 65535 port)) (both (or_else given.directions 2) (or_else given.protocols 3))
+    both (found 4 (number_within 0 65535 port)) (both (or_else given.directions direction.Target) (or_else given.protocols protocol.Both))
     >>= λ read. rule_of kind.Port read.0 (port_flags read.1.0 read.1.1) given
 
 -- the target's address where no option says otherwise
 abbrev pub address_rule : Option RuleKey → Given → Result Command ℕ
 address_rule key given =
-    both (or_else given.directions 2) (found 12 key) >>= λ read. rule_of read.1.kind read.1.value read.0 given
+    both (or_else given.directions direction.Target) (found 12 key) >>= λ read.
+    rule_of read.1.kind read.1.value (direction_flags read.0) given
 
 abbrev pub ether_key : List ℕ → Option RuleKey
 ether_key word = option_map (λ address. record { kind = kind.Ether; value = address }) (ether_of word)

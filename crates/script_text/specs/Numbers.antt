@@ -1,12 +1,16 @@
 -- Numbers, in digits.
-use Rattle.std.specs.Prelude.{ℕ, ◌&&◌, nat_le, List, length, Option, Some, None, option_and_then, if◌then◌else◌}
+use Rattle.std.specs.Prelude.{ℕ, ◌&&◌, Bool, nat_le, List, length, Option, Some, None, option_and_then, if◌then◌else◌}
 use Rattle.std.specs.Char.{is_digit}
 use Rattle.std.specs.List.{list_all}
 use Rattle.std.specs.Str.Parse.{digits_value}
 
--- the number of digits of this radix, letters of either case
+-- digits of this radix, letters of either case
+unfoldable pub are_digits : ℕ → List ℕ → Bool
+are_digits radix digits = list_all (λ c. is_digit c radix) digits
+
+-- their number
 abbrev pub numeral : ℕ → List ℕ → Option ℕ
-numeral radix digits = if list_all (λ c. is_digit c radix) digits then Some (digits_value radix digits) else None
+numeral radix digits = if are_digits radix digits then Some (digits_value radix digits) else None
 
 -- the number of at least one and at most so many digits
 abbrev pub number_in : ℕ → ℕ → List ℕ → Option ℕ

@@ -1,10 +1,9 @@
 -- The words behind `xdp-filter VERB`: the verb's options, and the one word of its own that most verbs have.
 use Rattle.std.specs.Prelude.{ℕ, ◌||◌, Bool, true, false, List, [], ◌∷◌, codes, Option, Some, None, is_some, Result, Ok, Err, if◌then◌else◌}
 use Rattle.std.specs.Str.{bytes_eq}
-use Rattle.script_text.specs.Lists.{mode_of, policy_of, features_of, list_of}
+use Rattle.script_text.specs.Lists.{mode_of, policy_of, directions_of, protocols_of, features_of}
 use Rattle.script_text.specs.Readings.{◌>>=◌, found}
 use Rattle.script_text.specs.Words.{is_option}
-use Rattle.script_text.specs.declared.word_lists.WordSet.TheVariants as words
 use Rattle.script_text.specs.declared.options.Given.{Given}
 use Rattle.script_text.specs.declared.options.Role.{Role}
 use Rattle.script_text.specs.declared.options.Role.TheVariants as role
@@ -90,10 +89,10 @@ given_value given setting.Features value =
     if is_some given.features then Err 3 else Ok (record given { features = Some (found 11 (features_of value)) })
 given_value given setting.Directions value =
     if is_some given.directions then Err 3
-    else Ok (record given { directions = Some (found 11 (list_of words.Directions value)) })
+    else Ok (record given { directions = Some (found 11 (directions_of value)) })
 given_value given setting.Protocols value =
     if is_some given.protocols then Err 3
-    else Ok (record given { protocols = Some (found 11 (list_of words.Protocols value)) })
+    else Ok (record given { protocols = Some (found 11 (protocols_of value)) })
 
 unfoldable pub given_switch : Given → Switch → Result Given ℕ
 given_switch given switch.Keep = if given.keep then Err 3 else Ok (record given { keep = true })

@@ -1,6 +1,7 @@
 ghost use Rattle.std.specs.Prelude.{◌≡◌, ◌≤◌, true, IfOk, IfSome};
 ghost use Rattle.std.specs.Option.{option_map};
-ghost use Rattle.script_text.specs.Filter.{or_else, load_of, unload_of, port_flags, port_of, address_rule, ether_key, ip_key, command_of, filter_line};
+ghost use Rattle.filter_rules.specs.Rule.{all_flags};
+ghost use Rattle.script_text.specs.Filter.{or_else, load_of, unload_of, direction_flags, protocol_flags, port_flags, port_of, address_rule, ether_key, ip_key, command_of, filter_line};
 ghost use Rattle.script_text.specs.Handed.{commands_flags};
 ghost use Rattle.script_text.specs.Readings.{Reads};
 ghost use Rattle.script_text.specs.Words.{words_of};
@@ -14,18 +15,13 @@ use crate::numbers::number_within;
 use crate::options::{Given, Verb, verb_of};
 use crate::reading::{LineEnd, Rule, both, keeps};
 use crate::text::bytes_of;
+use crate::word_lists::{Directions, Protocols};
 use crate::words::next_word;
 use filter_rules::{Policy, RuleKey, RuleKind};
 use std::alloc::Global;
 use xdp_state::{Command, Mode};
 
 const ALL_FEATURES: u8 = 31;
-
-/// The direction dst.
-const TARGET: u8 = 2;
-
-/// The protocols tcp and udp.
-const BOTH: u8 = 3;
 
 /// What an option gives, or what holds without it.
 fn or_else<T: Copy>(given: Option<Result<T, Rule>>, default: T) -> Result<T, Rule>
@@ -69,15 +65,44 @@ fn unload_of(alloc: Global, name: &[u8], given: Given) -> Result<Command, LineEn
     })
 }
 
-/// The flags of all pairs of a direction and a protocol.
-fn port_flags(directions: u8, protocols: u8) -> u8
-    requires directions { directions ≤ 3 }
-    requires protocols { protocols ≤ 3 }
-    ensures { result ≡ port_flags directions protocols }
+/// The flags of an address: 1 for the source, 2 for the target.
+fn direction_flags(directions: Directions) -> u8
+    ensures value { result ≡ direction_flags directions }
+    ensures some { 1 ≤ result }
+    ensures within { result ≤ 3 }
 {
-    let sources = if directions & 1 == 0 { 0 } else { protocols };
-    let targets = if directions & 2 == 0 { 0 } else { 4 * protocols };
-    sources + targets
+    match directions {
+        Directions::Source => 1,
+        Directions::Target => 2,
+        Directions::Both => 3,
+    }
+}
+
+/// The flags of a source's port.
+fn protocol_flags(protocols: Protocols) -> u8
+    ensures value { result ≡ protocol_flags protocols }
+    ensures some { 1 ≤ result }
+    ensures within { result ≤ 3 }
+{
+    match protocols {
+        Protocols::Tcp => 1,
+        Protocols::Udp => 2,
+        Protocols::Both => 3,
+    }
+}
+
+/// The flags of all pairs of a direction and a protocol.
+fn port_flags(directions: Directions, protocols: Protocols) -> u8
+    ensures value { result ≡ port_flags directions protocols }
+    ensures some { 1 ≤ result }
+    ensures within { result ≤ 15 }
+{
+    let flags = protocol_flags(protocols);
+    match directions {
+        Directions::Source => flags,
+        Directions::Target => 4 * flags,
+        Directions::Both => flags + 4 * flags,
+    }
 }
 
 /// Reads the words of `port`.
@@ -86,8 +111,8 @@ fn port_of(port: &[u8], given: Given) -> Result<Command, Rule>
     ensures command { result ≡ port_of port.now given }
     ensures flags { IfOk result (λ command. commands_flags command ≡ true) }
 {
-    let directions = or_else(given.directions, TARGET);
-    let protocols = or_else(given.protocols, BOTH);
+    let directions = or_else(given.directions, Directions::Target);
+    let protocols = or_else(given.protocols, Protocols::Both);
     let (port, (directions, protocols)) = both(
         number_within(0, 65_535, port).ok_or(4),
         both(directions, protocols),
@@ -104,19 +129,22 @@ fn port_of(port: &[u8], given: Given) -> Result<Command, Rule>
 
 /// Reads the words of a rule on an address.
 fn address_rule(key: Option<RuleKey>, given: Given) -> Result<Command, Rule>
+    requires { IfSome key (λ key. 3 ≤ all_flags key.kind) }
     ensures command { result ≡ address_rule key given }
     ensures flags { IfOk result (λ command. commands_flags command ≡ true) }
 {
-    let (flags, key) = both(or_else(given.directions, TARGET), key.ok_or(12))?;
+    let directions = or_else(given.directions, Directions::Target);
+    let (directions, key) = both(directions, key.ok_or(12))?;
     Ok(Command::FilterRule {
         key,
-        flags,
+        flags: direction_flags(directions),
         remove: given.remove,
     })
 }
 
 fn ether_key(word: &[u8]) -> Option<RuleKey>
-    ensures { result ≡ ether_key word.now }
+    ensures key { result ≡ ether_key word.now }
+    ensures flags { IfSome result (λ key. 3 ≤ all_flags key.kind) }
 {
     let address = ether_of(word)?;
     Some(RuleKey {
@@ -127,7 +155,8 @@ fn ether_key(word: &[u8]) -> Option<RuleKey>
 
 /// The key of an IPv4 or an IPv6 address.
 fn ip_key(word: &[u8]) -> Option<RuleKey>
-    ensures { result ≡ ip_key word.now }
+    ensures key { result ≡ ip_key word.now }
+    ensures flags { IfSome result (λ key. 3 ≤ all_flags key.kind) }
 {
     if let Some(address) = ip4_of(word) {
         return Some(RuleKey {

@@ -1,4 +1,4 @@
-ghost use Rattle.std.specs.Prelude.{◌≡◌, ◌≤◌, ◌<◌, true, IfOk, IfSome};
+ghost use Rattle.std.specs.Prelude.{◌≡◌, ◌≤◌, ◌<◌, true, IfOk, IfErr, IfSome};
 ghost use Rattle.script_text.specs.Interfaces.{is_declared, queue_count, has_room, interface_of, processor_of, hand_in_of};
 
 use crate::name::is_name;
@@ -85,6 +85,7 @@ fn processor_of(interfaces: &[Interface], name: &[u8], queue: u128) -> Option<u3
 pub fn hand_in_of(interfaces: &[Interface], name: &[u8], queue: &[u8]) -> Result<u32, Rule>
     requires { queue_count interfaces.now ≤ 8 }
     ensures value { result ≡ hand_in_of interfaces.now name.now queue.now }
+    ensures rule { IfErr result (λ rule. rule ≤ 9) }
     ensures below { IfOk result (λ processor. processor < queue_count interfaces.now) }
 {
     let (queue, ()) = both(number_of(queue).ok_or(4), keeps(5, is_name(name)))?;

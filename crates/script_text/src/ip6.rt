@@ -1,4 +1,4 @@
-ghost use Rattle.std.specs.Prelude.{◌≡◌, ◌^◌, ◌*◌, ◌-◌, ◌<◌, ◌≤◌, ℕ, IfSome, MatchOption, None, Some};
+ghost use Rattle.std.specs.Prelude.{◌≡◌, ◌==◌, ◌&&◌, ◌+◌, ◌^◌, ◌*◌, ◌-◌, ◌<◌, ◌≤◌, length, IfSome, MatchOption, None, Some};
 ghost use Rattle.script_text.specs.Addresses.{group_of, groups_of, gap_of, sides_of, ip6_of};
 
 use crate::numbers::number_in;
@@ -34,45 +34,57 @@ fn groups_of(text: &[u8]) -> Option<Groups>
     if text.is_empty() {
         return Some(groups);
     }
-    let mut part = first_part(text, b':');
+    let mut rest = text;
     while groups.count < 8 {
+        let part = first_part(rest, b':');
         let group = group_of(part.part)?;
         groups.count += 1;
         groups.number = groups.number * 65_536 + u128::from(group);
         match part.behind {
-            Some(behind) => part = first_part(behind, b':'),
+            Some(behind) => rest = behind,
             None => return Some(groups),
         }
     }
     None
 }
 
-/// What stands before the first `::` and behind it.
-fn gap_of(text: &[u8]) -> Option<(&[u8], &[u8])>
-    ensures { MatchOption result (gap_of text.now ≡ None) (λ sides. gap_of text.now ≡ Some (sides.0.now, sides.1.now)) }
+fn are_colons(a: u8, b: u8) -> bool
+    ensures { result ≡ ((a == 58) && (b == 58)) }
 {
-    for place in 1..text.len() {
-        if text[place - 1] == b':' && text[place] == b':' {
-            return Some((&text[..place - 1], &text[place + 1..]));
+    a == b':' && b == b':'
+}
+
+/// The place of the first `::`.
+fn gap_of(text: &[u8]) -> Option<usize>
+    ensures value { result ≡ gap_of text.now }
+    ensures within { IfSome result (λ place. place + 2 ≤ length text.now) }
+{
+    for behind in 1..text.len() {
+        if are_colons(text[behind - 1], text[behind]) {
+            return Some(behind - 1);
         }
     }
     None
 }
 
-/// The number of the groups before `::`, with the groups of zero behind them.
+/// The number of the groups before `::`, with groups of zero behind them up to the eighth.
 fn raised(groups: &Groups) -> u128
-    requires few { groups.now.count ≤ 7 }
+    requires few { groups.now.count ≤ 8 }
     requires small { groups.now.number < 65536 ^ groups.now.count }
-    ensures value { result ≡ groups.now.number * 65536 ^ (8 - groups.now.count) }
+    ensures { result ≡ groups.now.number * 65536 ^ (8 - groups.now.count) }
 {
     let mut number = groups.number;
-    for _ in groups.count..8 {
+    let mut count = groups.count;
+    while count < 8 {
         number *= 65_536;
+        count += 1;
     }
     number
 }
 
 fn sides_of(high: &Groups, low: &Groups) -> Option<u128>
+    requires few { high.now.count ≤ 8 }
+    requires fewer { low.now.count ≤ 8 }
     requires high { high.now.number < 65536 ^ high.now.count }
     requires low { low.now.number < 65536 ^ low.now.count }
     ensures { result ≡ sides_of (record { count = high.now.count; number = high.now.number })
@@ -89,11 +101,11 @@ fn sides_of(high: &Groups, low: &Groups) -> Option<u128>
 pub fn ip6_of(word: &[u8]) -> Option<u128>
     ensures { result ≡ ip6_of word.now }
 {
-    match gap_of(word) {
-        Some((high, low)) => sides_of(&groups_of(high)?, &groups_of(low)?),
-        None => {
-            let groups = groups_of(word)?;
-            (groups.count == 8).then_some(groups.number)
-        }
-    }
+    let Some(place) = gap_of(word) else {
+        let groups = groups_of(word)?;
+        return (groups.count == 8).then_some(groups.number);
+    };
+    let high = groups_of(&word[..place])?;
+    let low = groups_of(&word[place + 2..])?;
+    sides_of(&high, &low)
 }

@@ -44,7 +44,7 @@ fn interface_line(alloc: Global, mut script: Script, words: &[u8]) -> Result<Scr
 }
 
 /// The packet of a hand-in's words.
-#[tactic(auto, unfolding(crate::specs::Interfaces::packet_of))]
+#[tactic(auto, unfolding(crate::specs::Interfaces::packet_of), using(crate::proofs::HandedLemmas::least))]
 fn packet_of(
     alloc: Global,
     interfaces: &[Interface],
@@ -58,7 +58,10 @@ fn packet_of(
     ensures processor { IfOk result (λ what. asks_processor (queue_count interfaces.now) what ≡ true) }
     ensures flags { IfOk result (λ what. asks_flags what ≡ true) }
 {
-    let processor = hand_in_of(interfaces, name, queue)?;
+    let processor = match hand_in_of(interfaces, name, queue) {
+        Ok(processor) => processor,
+        Err(rule) => return Err(LineEnd::BadLine { rule }),
+    };
     match frame(alloc, digits)? {
         Some(frame) => Ok(What::Packet { processor, frame }),
         None => Err(LineEnd::BadLine { rule: 10 }),

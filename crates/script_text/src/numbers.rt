@@ -2,11 +2,13 @@ ghost use Rattle.std.specs.Prelude.{◌≡◌, ℕ, ◌^◌, ◌<◌, ◌≤◌,
 ghost use Rattle.script_text.specs.Numbers.{numeral, number_in, number_of, number_within};
 
 /// The number of digits of the radix.
+#[tactic(auto, unfolding(crate::specs::Numbers::are_digits))]
 fn numeral(radix: u32, digits: &[u8]) -> Option<u128>
     requires least { 2 ≤ radix }
     requires most { radix ≤ 16 }
     requires short { length digits.now ≤ 20 }
-    ensures { result ≡ numeral radix digits.now }
+    ensures value { result ≡ numeral radix digits.now }
+    ensures small { IfSome result (λ number. number < 16 ^ length digits.now) }
 {
     let mut number = 0;
     for digit in digits {
@@ -21,7 +23,8 @@ pub fn number_in(radix: u32, most: usize, word: &[u8]) -> Option<u128>
     requires least { 2 ≤ radix }
     requires most { radix ≤ 16 }
     requires short { most ≤ 20 }
-    ensures { result ≡ number_in radix most word.now }
+    ensures value { result ≡ number_in radix most word.now }
+    ensures small { IfSome result (λ number. number < 16 ^ most) }
 {
     if word.is_empty() || word.len() > most {
         return None;

@@ -1,7 +1,9 @@
 ghost use Rattle.std.specs.Prelude.{◌≡◌};
 ghost use Rattle.script_text.specs.Options.{verb_of, is_either, load_option, unload_option, address_option, port_option, option_of, role_of, none_given, given_value, given_switch};
 
-use crate::word_lists::{WordSet, features_of, list_of, mode_of, policy_of};
+use crate::word_lists::{
+    Directions, Protocols, directions_of, features_of, mode_of, policy_of, protocols_of,
+};
 use crate::reading::Rule;
 use crate::words::is_option;
 use filter_rules::Policy;
@@ -50,8 +52,8 @@ pub struct Given {
     pub mode: Option<Result<Mode, Rule>>,
     pub policy: Option<Result<Policy, Rule>>,
     pub features: Option<Result<u8, Rule>>,
-    pub directions: Option<Result<u8, Rule>>,
-    pub protocols: Option<Result<u8, Rule>>,
+    pub directions: Option<Result<Directions, Rule>>,
+    pub protocols: Option<Result<Protocols, Rule>>,
     pub keep: bool,
     pub remove: bool,
 }
@@ -193,10 +195,10 @@ impl Given {
                 given.features = Some(features_of(value).ok_or(BAD_VALUE));
             }
             Setting::Directions if self.directions.is_none() => {
-                given.directions = Some(list_of(WordSet::Directions, value).ok_or(BAD_VALUE));
+                given.directions = Some(directions_of(value).ok_or(BAD_VALUE));
             }
             Setting::Protocols if self.protocols.is_none() => {
-                given.protocols = Some(list_of(WordSet::Protocols, value).ok_or(BAD_VALUE));
+                given.protocols = Some(protocols_of(value).ok_or(BAD_VALUE));
             }
             _ => return Err(BAD_FORM),
         }

@@ -1,58 +1,59 @@
-ghost use Rattle.std.specs.Prelude.{◌≡◌, ◌≤◌, IfSome};
-ghost use Rattle.script_text.specs.Lists.{mode_of, policy_of, bit_of, list_of, features_of};
+ghost use Rattle.std.specs.Prelude.{◌≡◌};
+ghost use Rattle.script_text.specs.Lists.{mode_of, policy_of, directions_of, protocols_of, feature_of, feature_list, features_of};
 
 use crate::parts::first_part;
 use filter_rules::Policy;
 use xdp_state::Mode;
 
-/// The words that a list may have, each with a bit of its own: directions are src 1 and dst 2, protocols tcp 1 and udp 2,
-/// features tcp 1, udp 2, ipv4 4, ipv6 8 and ethernet 16.
+/// Which of a packet's two ends a rule asks for.
 #[derive(Clone, Copy, Debug, PartialEq, Eq)]
-pub enum WordSet {
-    Directions,
-    Protocols,
-    Features,
+pub enum Directions {
+    Source,
+    Target,
+    Both,
 }
 
-impl WordSet {
-    /// The bit of a word of the set.
-    fn bit(self, word: &[u8]) -> Option<u8>
-        ensures { result ≡ bit_of self word.now }
-    {
-        match self {
-            WordSet::Directions => direction(word),
-            WordSet::Protocols => protocol(word),
-            WordSet::Features => feature(word),
-        }
-    }
+/// Which protocols a rule on a port asks for.
+#[derive(Clone, Copy, Debug, PartialEq, Eq)]
+pub enum Protocols {
+    Tcp,
+    Udp,
+    Both,
 }
 
-fn direction(word: &[u8]) -> Option<u8>
-    ensures { result ≡ bit_of WordSet.Directions word.now }
+/// A list of src and dst.
+pub fn directions_of(list: &[u8]) -> Option<Directions>
+    ensures { result ≡ directions_of list.now }
 {
-    if word == b"src".as_slice() {
-        Some(1)
-    } else if word == b"dst".as_slice() {
-        Some(2)
+    if list == b"src".as_slice() {
+        Some(Directions::Source)
+    } else if list == b"dst".as_slice() {
+        Some(Directions::Target)
+    } else if list == b"src,dst".as_slice() || list == b"dst,src".as_slice() {
+        Some(Directions::Both)
     } else {
         None
     }
 }
 
-fn protocol(word: &[u8]) -> Option<u8>
-    ensures { result ≡ bit_of WordSet.Protocols word.now }
+/// A list of tcp and udp.
+pub fn protocols_of(list: &[u8]) -> Option<Protocols>
+    ensures { result ≡ protocols_of list.now }
 {
-    if word == b"tcp".as_slice() {
-        Some(1)
-    } else if word == b"udp".as_slice() {
-        Some(2)
+    if list == b"tcp".as_slice() {
+        Some(Protocols::Tcp)
+    } else if list == b"udp".as_slice() {
+        Some(Protocols::Udp)
+    } else if list == b"tcp,udp".as_slice() || list == b"udp,tcp".as_slice() {
+        Some(Protocols::Both)
     } else {
         None
     }
 }
 
-fn feature(word: &[u8]) -> Option<u8>
-    ensures { result ≡ bit_of WordSet.Features word.now }
+/// The bit of a feature: 1 tcp, 2 udp, 4 ipv4, 8 ipv6, 16 ethernet.
+fn feature_of(word: &[u8]) -> Option<u8>
+    ensures { result ≡ feature_of word.now }
 {
     if word == b"tcp".as_slice() {
         Some(1)
@@ -96,20 +97,21 @@ pub fn policy_of(word: &[u8]) -> Option<Policy>
     }
 }
 
-/// The bits of a list of words with commas between them, each at most once.
-pub fn list_of(words: WordSet, list: &[u8]) -> Option<u8>
-    ensures { result ≡ list_of words list.now }
+/// The bits of features with commas between them, each at most once.
+fn feature_list(list: &[u8]) -> Option<u8>
+    ensures { result ≡ feature_list list.now }
 {
     let mut bits = 0;
-    let mut part = first_part(list, b',');
+    let mut rest = list;
     loop {
-        let bit = words.bit(part.part)?;
+        let part = first_part(rest, b',');
+        let bit = feature_of(part.part)?;
         if bits & bit != 0 {
             return None;
         }
         bits |= bit;
         match part.behind {
-            Some(behind) => part = first_part(behind, b','),
+            Some(behind) => rest = behind,
             None => return Some(bits),
         }
     }
@@ -122,5 +124,5 @@ pub fn features_of(list: &[u8]) -> Option<u8>
     if list == b"all".as_slice() {
         return Some(31);
     }
-    list_of(WordSet::Features, list)
+    feature_list(list)
 }

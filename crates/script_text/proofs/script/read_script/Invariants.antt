@@ -1,7 +1,6 @@
-use Rattle.std.proofs.Common.{◌≡◌, ◌+◌, ◌≤◌, true, [], length}
+use Rattle.std.proofs.Common.{◌≡◌, ◌+◌, ◌≤◌, [], length}
 use Rattle.std.specs.Str.Lines.{lines}
-use Rattle.std.specs.List.{list_all}
-use Rattle.script_text.specs.Handed.{has_frame}
+use Rattle.script_text.specs.Handed.{IsSound}
 use Rattle.script_text.specs.Script.{read_lines}
 use Rattle.script_text.proofs.script.read_script.Given as goal
 
@@ -11,7 +10,8 @@ invariant-loop-text l = record {
   reading : read_lines l.script (l.line + 1) (lines l.rest) ≡ read_lines (record { interfaces = []; lines = [] }) 1 (lines l.bytes);
   count : l.line + length (lines l.rest) ≡ length (lines l.bytes);
   few : length (lines l.bytes) ≤ 65536;
-  frames : list_all has_frame l.script.lines ≡ true;
+  sound : IsSound l.script;
+  lines : length l.script.lines ≤ l.line;
 }
 
 abbrev pub decreases-loop-text : goal.decreases-loop-text
