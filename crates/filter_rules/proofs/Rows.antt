@@ -42,4 +42,15 @@ pub replace_first-kept : {X : Type 0} (p : X → Bool) (items : X → List X) (x
 replace_first-kept p items [] d y h kept = absurd (grind arith)
 replace_first-kept p items (x ∷ xs) d y h kept = grind (arith, common_steps, nat_tests, replace_first-kept p items xs d y)
 
+pub replace_first-dropped_at : {X : Type 0} (p : X → Bool) (items : X → List X) (xs : List X) (i : ℕ) (x : X) → Some i ≡ position p xs → x ≡ slice_index_or xs i x → items x ≡ [] → remove xs i ≡ replace_first p items xs
+replace_first-dropped_at p items xs i x is here gone = grind (arith, nat_tests, replace_first-dropped p items xs x)
+
+pub replace_first-kept_at : {X : Type 0} (p : X → Bool) (items : X → List X) (xs : List X) (i : ℕ) (x y : X) → Some i ≡ position p xs → x ≡ slice_index_or xs i x → items x ≡ y ∷ [] → slice_set xs i y ≡ replace_first p items xs
+replace_first-kept_at p items xs i x y is here kept = grind (arith, nat_tests, replace_first-kept p items xs x y)
+
+pub list_any-at : {X : Type 0} (p : X → Bool) (xs : List X) (i : ℕ) → Some i ≡ position p xs → list_any p xs ≡ true
+list_any-at p xs i is = grind (arith, nat_tests, list_any-found p xs)
+
 pub ruleset first_passing = (edit_or_push-found, edit_or_push-absent, find-found, find-absent, list_any-found, list_any-absent)
+
+pub ruleset first_replaced = (replace_first-dropped, replace_first-kept, list_any-found, list_any-absent)

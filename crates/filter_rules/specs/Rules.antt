@@ -1,5 +1,5 @@
 -- The rows of the filter, in the order in which they were made.
-use Rattle.std.specs.Prelude.{ℕ, ◌==◌, Bool, bit_and, bit_or, List, [], ◌∷◌, ◌++◌, find, if◌then◌else◌}
+use Rattle.std.specs.Prelude.{ℕ, ◌==◌, ◌&&◌, Bool, true, not, bit_and, bit_or, List, [], ◌∷◌, ◌++◌, find, if◌then◌else◌}
 use Rattle.std.specs.Int.{w8, bit_not}
 use Rattle.std.specs.List.{list_any}
 use Rattle.std.specs.Option.{option_map_or}
@@ -13,6 +13,11 @@ has_key key row = same_key row.key key
 -- some row has the key
 abbrev pub has_row : List RuleRow → RuleKey → Bool
 has_row rows key = list_any (has_key key) rows
+
+-- no two rows have the same key
+abbrev pub have_different_keys : List RuleRow → Bool
+have_different_keys [] = true
+have_different_keys (row ∷ rows) = not (has_row rows row.key) && have_different_keys rows
 
 -- some row with the key has one of these flags
 abbrev pub has_rule : List RuleRow → RuleKey → ℕ → Bool

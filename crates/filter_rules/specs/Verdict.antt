@@ -1,6 +1,6 @@
 -- What a filter asks of its rows about a frame, and what it makes of the frame.
 use Rattle.std.specs.Option.{option_map, option_or, unwrap_or}
-use Rattle.std.specs.Prelude.{ℕ, Bool, List, [], ◌∷◌, ◌++◌, find, if◌then◌else◌, Option, Some, None}
+use Rattle.std.specs.Prelude.{ℕ, List, [], ◌∷◌, ◌++◌, find, if◌then◌else◌, Option, Some, None}
 use Rattle.filter_rules.specs.Policy.{hit_action, miss_action}
 use Rattle.filter_rules.specs.Rule.{has_one_of, answers}
 use Rattle.filter_rules.specs.declared.policy.Policy.{Policy}

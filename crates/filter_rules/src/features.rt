@@ -12,6 +12,7 @@ pub const ETHERNET: u8 = 16;
 
 /// Those that ask for ports.
 pub const PORTS: u8 = TCP | UDP;
+
 /// Those that ask for what an IP packet says.
 pub const IP: u8 = PORTS | IPV4 | IPV6;
 

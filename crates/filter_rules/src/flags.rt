@@ -2,6 +2,7 @@
 
 /// An address's: the rule asks for the sender.
 pub const SOURCE: u8 = 1;
+
 /// An address's: the rule asks for the receiver.
 pub const TARGET: u8 = 2;
 
@@ -15,5 +16,6 @@ pub const TARGET_UDP: u8 = 8;
 
 /// All of an address.
 pub const ADDRESS: u8 = SOURCE | TARGET;
+
 /// All of a port.
 pub const PORT: u8 = SOURCE_TCP | SOURCE_UDP | TARGET_TCP | TARGET_UDP;

@@ -3,6 +3,7 @@
 
 pub mod features;
 pub mod flags;
+pub mod laws;
 mod policy;
 mod rule;
 mod rules;

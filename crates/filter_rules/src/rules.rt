@@ -100,17 +100,21 @@ impl Rules {
 
     /// Clears flags in the row of the key, and drops the row where it has no flag left. The flags are those of the key's
     /// kind, at least one.
+    #[tactic(auto, using(crate::proofs::Rows::first_replaced))]
     pub fn remove(&mut self, key: RuleKey, flags: u8) -> Result<(), NoSuchRule>
         ensures rows { OnOk result (self.new ≡ clear_rule self.old key flags) }
         ensures none { IsErr result ↔ (has_rule self.old key flags ≡ false) }
         ensures err { OnErr result (self.new ≡ self.old) }
     {
-        let place = place_of_rule(&self.rows, key, flags).ok_or(NoSuchRule)?;
-        let left = self.rows[place].flags & !flags;
-        if left == 0 {
+        let Some(place) = place_of_rule(&self.rows, key, flags) else {
+            return Err(NoSuchRule);
+        };
+        let mut row = self.rows[place];
+        row.flags &= !flags;
+        if row.flags == 0 {
             self.rows.remove(place);
         } else {
-            self.rows[place].flags = left;
+            self.rows[place] = row;
         }
         Ok(())
     }

@@ -2,6 +2,8 @@
 
 use super::*;
 use net_headers::{Headers, Net, Ports};
+use std::alloc::Global;
+use std::process::Abort;
 use std::test::Fail;
 use xio::Action;
 
@@ -58,105 +60,70 @@ fn miss(action: Action) -> FilterEnd {
     FilterEnd::Miss { action }
 }
 
-/// Each question is answered by the row with its key and its flag, and by nothing less.
-#[test]
-fn questions(rt: HostRuntime) -> Result<(), Fail> {
-    let none = (Net::Absent, Ports::Absent);
-    let rows = [
-        (
-            features::ETHERNET,
-            RuleKey::ether(TARGET),
-            flags::TARGET,
-            none,
-        ),
-        (
-            features::ETHERNET,
-            RuleKey::ether(SOURCE),
-            flags::SOURCE,
-            none,
-        ),
-        (
-            features::IPV4,
-            RuleKey::ip4(TARGET4),
-            flags::TARGET,
-            (V4, TCP),
-        ),
-        (
-            features::IPV4,
-            RuleKey::ip4(SOURCE4),
-            flags::SOURCE,
-            (V4, UDP),
-        ),
-        (
-            features::IPV6,
-            RuleKey::ip6(TARGET6),
-            flags::TARGET,
-            (V6, TCP),
-        ),
-        (
-            features::IPV6,
-            RuleKey::ip6(SOURCE6),
-            flags::SOURCE,
-            (V6, UDP),
-        ),
-        (
-            features::TCP,
-            RuleKey::port(443),
-            flags::TARGET_TCP,
-            (V4, TCP),
-        ),
-        (
-            features::TCP,
-            RuleKey::port(12345),
-            flags::SOURCE_TCP,
-            (V6, TCP),
-        ),
-        (
-            features::UDP,
-            RuleKey::port(53),
-            flags::TARGET_UDP,
-            (V6, UDP),
-        ),
-        (
-            features::UDP,
-            RuleKey::port(5353),
-            flags::SOURCE_UDP,
-            (V4, UDP),
-        ),
-    ];
-    for (feature, key, flag, (net, ports)) in rows {
+/// Each row alone decides the frame where the feature is on, and doesn't where its flag or the feature is off.
+fn decides(
+    rt: &impl Abort,
+    alloc: Global,
+    feature: u8,
+    rows: &[(RuleKey, u8, Net, Ports)],
+) -> Result<(), Fail> {
+    for &(key, flag, net, ports) in rows {
         let frame = headers(net, ports);
-        let mut rules = Rules::new(rt.alloc())?;
+        let mut rules = Rules::new(alloc)?;
         let others = key.kind.all_flags() & !flag;
         assert_eq!(rt; rules.add(key, others, 7), Ok(7));
-        assert_eq!(rt;
-            rules.verdict(&frame, Policy::Allow, features::ALL),
-            miss(Action::Pass)
-        );
-        assert_eq!(rt;
-            rules.verdict(&frame, Policy::Deny, features::ALL),
-            miss(Action::Drop)
-        );
+        let passed = miss(Action::Pass);
+        let dropped = miss(Action::Drop);
+        assert_eq!(rt; rules.verdict(&frame, Policy::Allow, features::ALL), passed);
+        assert_eq!(rt; rules.verdict(&frame, Policy::Deny, features::ALL), dropped);
         assert_eq!(rt; rules.add(key, flag, 8), Ok(7));
+        let rest = features::ALL & !feature;
+        assert_eq!(rt; rules.verdict(&frame, Policy::Allow, rest), passed);
+        assert_eq!(rt; rules.verdict(&frame, Policy::Deny, rest), dropped);
+        let named = |action| hit(7, action);
         assert_eq!(rt;
             rules.verdict(&frame, Policy::Allow, feature),
-            hit(7, Action::Drop)
+            named(Action::Drop)
         );
         assert_eq!(rt;
             rules.verdict(&frame, Policy::Deny, feature),
-            hit(7, Action::Pass)
-        );
-        let rest = features::ALL & !feature;
-        assert_eq!(rt;
-            rules.verdict(&frame, Policy::Allow, rest),
-            miss(Action::Pass)
-        );
-        assert_eq!(rt;
-            rules.verdict(&frame, Policy::Deny, rest),
-            miss(Action::Drop)
+            named(Action::Pass)
         );
     }
     Ok(())
+}
+
+#[test]
+fn addresses(rt: HostRuntime) -> Result<(), Fail> {
+    let rows = [
+        (RuleKey::ether(TARGET), flags::TARGET, V4, TCP),
+        (RuleKey::ether(SOURCE), flags::SOURCE, V6, UDP),
+    ];
+    decides(&rt, rt.alloc(), features::ETHERNET, &rows)?;
+    let rows = [
+        (RuleKey::ip4(TARGET4), flags::TARGET, V4, TCP),
+        (RuleKey::ip4(SOURCE4), flags::SOURCE, V4, UDP),
+    ];
+    decides(&rt, rt.alloc(), features::IPV4, &rows)?;
+    let rows = [
+        (RuleKey::ip6(TARGET6), flags::TARGET, V6, TCP),
+        (RuleKey::ip6(SOURCE6), flags::SOURCE, V6, UDP),
+    ];
+    decides(&rt, rt.alloc(), features::IPV6, &rows)
+}
+
+#[test]
+fn ports(rt: HostRuntime) -> Result<(), Fail> {
+    let rows = [
+        (RuleKey::port(443), flags::TARGET_TCP, V4, TCP),
+        (RuleKey::port(12345), flags::SOURCE_TCP, V6, TCP),
+    ];
+    decides(&rt, rt.alloc(), features::TCP, &rows)?;
+    let rows = [
+        (RuleKey::port(53), flags::TARGET_UDP, V6, UDP),
+        (RuleKey::port(5353), flags::SOURCE_UDP, V4, UDP),
+    ];
+    decides(&rt, rt.alloc(), features::UDP, &rows)
 }
 
 /// The first question that a row answers decides, and a header that isn't whole where it would be asked for.

@@ -28,7 +28,16 @@ struct Question {
     flag: u8,
 }
 
+impl Question {
+    fn new(key: RuleKey, flag: u8) -> Self
+        ensures { result ≡ record { key = key; flag = flag } }
+    {
+        Question { key, flag }
+    }
+}
+
 /// What a filter of this policy and these features makes of a frame with these headers.
+#[tactic(auto, using(crate::proofs::Verdicts::parts_in_turn))]
 pub fn verdict(rows: &[RuleRow], headers: &Headers, policy: Policy, features: u8) -> FilterEnd
     ensures { result ≡ verdict rows.now headers.now policy features }
 {
@@ -76,25 +85,13 @@ fn by_ports(rows: &[RuleRow], ports: Ports, policy: Policy, features: u8) -> Opt
     match ports {
         Ports::Cut if features & features::PORTS != 0 => Some(FilterEnd::Cut),
         Ports::Tcp { source, target } if features & features::TCP != 0 => {
-            let target = Question {
-                key: RuleKey::port(target),
-                flag: flags::TARGET_TCP,
-            };
-            let source = Question {
-                key: RuleKey::port(source),
-                flag: flags::SOURCE_TCP,
-            };
+            let target = Question::new(RuleKey::port(target), flags::TARGET_TCP);
+            let source = Question::new(RuleKey::port(source), flags::SOURCE_TCP);
             by_pair(rows, policy, target, source)
         }
         Ports::Udp { source, target } if features & features::UDP != 0 => {
-            let target = Question {
-                key: RuleKey::port(target),
-                flag: flags::TARGET_UDP,
-            };
-            let source = Question {
-                key: RuleKey::port(source),
-                flag: flags::SOURCE_UDP,
-            };
+            let target = Question::new(RuleKey::port(target), flags::TARGET_UDP);
+            let source = Question::new(RuleKey::port(source), flags::SOURCE_UDP);
             by_pair(rows, policy, target, source)
         }
         _ => None,
@@ -109,14 +106,8 @@ fn by_addresses(
 ) -> Option<FilterEnd>
     ensures { result ≡ decided rows.now policy (Ask target 2 ∷ Ask source 1 ∷ []) }
 {
-    let target = Question {
-        key: target,
-        flag: flags::TARGET,
-    };
-    let source = Question {
-        key: source,
-        flag: flags::SOURCE,
-    };
+    let target = Question::new(target, flags::TARGET);
+    let source = Question::new(source, flags::SOURCE);
     by_pair(rows, policy, target, source)
 }
 

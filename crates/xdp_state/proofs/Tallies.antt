@@ -1,11 +1,15 @@
 -- How sums grow by a packet, and by all packets of another tally.
-use Rattle.std.proofs.Common.{◌≡◌, ℕ, ◌+◌, ◌-◌, ◌^◌, ◌<◌, ◌≤◌, min, cond, nat_eq, List, [], ◌∷◌, ◌++◌, slice_index, length, zero, suc, refl, ap, ◌∙◌, arith}
-use Rattle.std.specs.List.{sum_by, count_by}
+use Rattle.std.proofs.Common.{◌≡◌, ℕ, ◌+◌, ◌<◌, cond, nat_eq, List, [], ◌∷◌, ◌++◌, slice_index, length, zero, suc, refl, sym, ap, ◌∙◌, arith}
+use Rattle.std.proofs.lemmas.List.{append-nil}
+use Rattle.std.proofs.lemmas.List.Concat.{flat_map-append}
 use Rattle.std.proofs.lemmas.List.Sums.{sum_by-append}
 use Rattle.std.proofs.lemmas.Bool.Decides.{nat_tests}
 use Rattle.xdp_state.specs.Capped.{capped}
-use Rattle.xdp_state.specs.Sums.{Counted, by_action, tally_of, packets_with, bytes_with}
+use Rattle.xdp_state.specs.Hits.{hits_in, merged, named_more}
+use Rattle.xdp_state.specs.Sums.{Counted, by_action, tally_of, packets_with, bytes_with, named, times, hit_rows, rows_from}
+use Rattle.xdp_state.specs.declared.hits.HitRow.{HitRow}
 use Rattle.xdp_state.specs.declared.tally.Tally.{Tally}
+use Rattle.xdp_state.proofs.HitSums.{hit_rows-add, hit_rows-merge, hit_rows-hits}
 use Rattle.xio.specs.Action.{number}
 
 pub packets_with-append : (a : ℕ) (xs ys : List Counted) → packets_with a (xs ++ ys) ≡ packets_with a xs + packets_with a ys
@@ -30,8 +34,8 @@ by_action-of (x0 ∷ x1 ∷ x2 ∷ x3 ∷ x4 ∷ []) f five at =
     cc
 by_action-of (x0 ∷ x1 ∷ x2 ∷ x3 ∷ x4 ∷ x5 ∷ xs) f five at = absurd (omega arith)
 
-pub same_tally : (ps bs qs cs : List ℕ) → ps ≡ qs → bs ≡ cs → record { packets = ps; bytes = bs } ≡ (let t : Tally = record { packets = qs; bytes = cs } in t)
-same_tally ps bs qs cs packets bytes = rw (packets, bytes) refl
+same_tally : (hs js : List HitRow) (ps bs qs cs : List ℕ) → hs ≡ js → ps ≡ qs → bs ≡ cs → record { hits = hs; packets = ps; bytes = bs } ≡ (let t : Tally = record { hits = js; packets = qs; bytes = cs } in t)
+same_tally hs js ps bs qs cs hits packets bytes = rw (hits, packets, bytes) refl
 
 -- what stands at an action's place
 pub at-by_action : (f : ℕ → ℕ) (a : ℕ) → a < 5 → slice_index (by_action f) a ≡ f a
@@ -56,20 +60,37 @@ packets-merge a mine theirs old by new is other sum = rw packets_with-append (om
 pub bytes-merge : (a : ℕ) (mine theirs : List Counted) (old by new : ℕ) → old ≡ capped (bytes_with a mine) → by ≡ capped (bytes_with a theirs) → new ≡ capped (old + by) → new ≡ capped (bytes_with a (mine ++ theirs))
 bytes-merge a mine theirs old by new is other sum = rw bytes_with-append (omega arith)
 
-pub tally-add : (t : Tally) (ps bs : List ℕ) (carried : List Counted) (c : Counted) → t ≡ tally_of carried → length ps ≡ 5 → length bs ≡ 5
+named-push : (carried : List Counted) (c : Counted) → named (carried ++ c ∷ []) ≡ named carried ++ c.rules
+named-push carried c = rw flat_map-append (ap (λ rs. named carried ++ rs) (append-nil c.rules))
+
+pub tally-add : (t : Tally) (hs : List HitRow) (ps bs : List ℕ) (carried : List Counted) (c : Counted) → t ≡ tally_of carried
+    → hs ≡ named_more t.hits c.rules → length ps ≡ 5 → length bs ≡ 5
     → ((a : ℕ) → a < 5 → slice_index ps a ≡ cond (nat_eq a (number c.verdict)) (capped (slice_index t.packets a + 1)) (slice_index t.packets a))
     → ((a : ℕ) → a < 5 → slice_index bs a ≡ cond (nat_eq a (number c.verdict)) (capped (slice_index t.bytes a + c.handed)) (slice_index t.bytes a))
-    → record { packets = ps; bytes = bs } ≡ tally_of (carried ++ c ∷ [])
-tally-add t ps bs carried c is five five' packets bytes =
-    same_tally ps bs _ _
+    → record { hits = hs; packets = ps; bytes = bs } ≡ tally_of (carried ++ c ∷ [])
+unfolding tally_of
+tally-add t hs ps bs carried c is hits five five' packets bytes =
+    same_tally hs _ ps bs _ _
+    (hits ∙ ap (λ (t : Tally). named_more t.hits c.rules) is ∙ hit_rows-add (named carried) c.rules ∙ ap hit_rows (sym (named-push carried c)))
     (by_action-of ps (λ a. capped (packets_with a (carried ++ c ∷ []))) five (λ a below. packets-add a carried c (slice_index t.packets a) (slice_index ps a) (ap (λ (t : Tally). slice_index t.packets a) is ∙ at-by_action (λ a. capped (packets_with a carried)) a below) (packets a below)))
     (by_action-of bs (λ a. capped (bytes_with a (carried ++ c ∷ []))) five' (λ a below. bytes-add a carried c (slice_index t.bytes a) (slice_index bs a) (ap (λ (t : Tally). slice_index t.bytes a) is ∙ at-by_action (λ a. capped (bytes_with a carried)) a below) (bytes a below)))
 
-pub tally-merge : (t u : Tally) (ps bs : List ℕ) (mine theirs : List Counted) → t ≡ tally_of mine → u ≡ tally_of theirs → length ps ≡ 5 → length bs ≡ 5
+pub tally-merge : (t u : Tally) (hs : List HitRow) (ps bs : List ℕ) (mine theirs : List Counted) → t ≡ tally_of mine → u ≡ tally_of theirs
+    → hs ≡ merged t.hits u.hits → length ps ≡ 5 → length bs ≡ 5
     → ((a : ℕ) → a < 5 → slice_index ps a ≡ capped (slice_index t.packets a + slice_index u.packets a))
     → ((a : ℕ) → a < 5 → slice_index bs a ≡ capped (slice_index t.bytes a + slice_index u.bytes a))
-    → record { packets = ps; bytes = bs } ≡ tally_of (mine ++ theirs)
-tally-merge t u ps bs mine theirs is other five five' packets bytes =
-    same_tally ps bs _ _
+    → record { hits = hs; packets = ps; bytes = bs } ≡ tally_of (mine ++ theirs)
+unfolding tally_of
+tally-merge t u hs ps bs mine theirs is other hits five five' packets bytes =
+    same_tally hs _ ps bs _ _
+    (hits ∙ ap (λ (t : Tally). merged t.hits u.hits) is ∙ ap (λ (u : Tally). merged (hit_rows (named mine)) u.hits) other ∙ hit_rows-merge (named mine) (named theirs) ∙ ap hit_rows (sym (flat_map-append (λ (c : Counted). c.rules) mine theirs)))
     (by_action-of ps (λ a. capped (packets_with a (mine ++ theirs))) five (λ a below. packets-merge a mine theirs (slice_index t.packets a) (slice_index u.packets a) (slice_index ps a) (ap (λ (t : Tally). slice_index t.packets a) is ∙ at-by_action (λ a. capped (packets_with a mine)) a below) (ap (λ (t : Tally). slice_index t.packets a) other ∙ at-by_action (λ a. capped (packets_with a theirs)) a below) (packets a below)))
     (by_action-of bs (λ a. capped (bytes_with a (mine ++ theirs))) five' (λ a below. bytes-merge a mine theirs (slice_index t.bytes a) (slice_index u.bytes a) (slice_index bs a) (ap (λ (t : Tally). slice_index t.bytes a) is ∙ at-by_action (λ a. capped (bytes_with a mine)) a below) (ap (λ (t : Tally). slice_index t.bytes a) other ∙ at-by_action (λ a. capped (bytes_with a theirs)) a below) (bytes a below)))
+
+pub tally-none : (hs : List HitRow) → hs ≡ [] → record { hits = hs; packets = 0 ∷ 0 ∷ 0 ∷ 0 ∷ 0 ∷ []; bytes = 0 ∷ 0 ∷ 0 ∷ 0 ∷ 0 ∷ [] } ≡ tally_of []
+unfolding tally_of rows_from
+tally-none hs none = rw none refl
+
+pub tally-hits : (t : Tally) (carried : List Counted) (rule : ℕ) → t ≡ tally_of carried → hits_in t.hits rule ≡ capped (times (named carried) rule)
+unfolding tally_of
+tally-hits t carried rule is = ap (λ (t : Tally). hits_in t.hits rule) is ∙ hit_rows-hits (named carried) rule

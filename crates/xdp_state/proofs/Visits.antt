@@ -1,9 +1,7 @@
 -- A walk over all members visits those of the interface.
-use Rattle.std.proofs.Common.{◌≡◌, ℕ, ◌+◌, ◌<◌, ◌≤◌, true, false, cond, nat_eq, List, [], ◌∷◌, ◌++◌, length, drop, slice_index_or, refl, arith, ap, ◌∙◌, suc, add-one}
+use Rattle.std.proofs.Common.{◌≡◌, ℕ, ◌+◌, ◌<◌, true, false, nat_eq, List, ◌∷◌, length, drop, slice_index_or, refl, add-one}
 use Rattle.std.proofs.Math.Seq.{drop-cons}
-use Rattle.filter_rules.specs.declared.rule.RuleRow.{RuleRow}
-use Rattle.xdp_state.specs.Book.{members_of}
-use Rattle.xdp_state.specs.Traversal.{visit, visits_of, verdict_of}
+use Rattle.xdp_state.specs.Members.{members_of}
 use Rattle.xdp_state.specs.declared.attachment.Attachment.{Attachment}
 
 -- the members of the interface that are left at a place

@@ -1,13 +1,14 @@
 -- What a command gets for an answer.
 use Rattle.std.specs.Prelude.{ℕ, ◌&&◌, ◌++◌, Bool, true, not, nat_le, List, [], ◌∷◌, length, if◌then◌else◌}
 use Rattle.std.specs.List.{list_any}
+use Rattle.filter_rules.specs.Rule.{has_one_of}
 use Rattle.filter_rules.specs.Rules.{has_row, has_rule}
 use Rattle.filter_rules.specs.declared.rule.RuleKey.{RuleKey}
 use Rattle.filter_rules.specs.declared.rule.RuleKind.{RuleKind}
 use Rattle.filter_rules.specs.declared.rule.RuleKind.TheVariants.{Port, Ip4, Ip6, Ether}
 use Rattle.xdp_state.specs.Book.{Book, has_own_flags}
 use Rattle.xdp_state.specs.Interfaces.{is_declared, interface_named}
-use Rattle.xdp_state.specs.Members.{members_of, members_off, has_filter, filter_number, has_bits, is_on}
+use Rattle.xdp_state.specs.Members.{members_of, members_off, has_filter, filter_number, is_on}
 use Rattle.xdp_state.specs.declared.attachment.Attachment.{Attachment}
 use Rattle.xdp_state.specs.declared.attachment.Kind.{Kind}
 use Rattle.xdp_state.specs.declared.attachment.Kind.TheVariants.{Filter}
@@ -34,7 +35,7 @@ first_of (o ∷ os) change = if o.holds then Refused o.reason else first_of os c
 
 -- the features that a rule needs: a port's protocols (1 tcp, 2 udp), or what has its address (4 ipv4, 8 ipv6, 16 ethernet)
 abbrev pub needed : RuleKind → ℕ → List ℕ
-needed Port flags = (if has_bits flags 5 then 1 ∷ [] else []) ++ (if has_bits flags 10 then 2 ∷ [] else [])
+needed Port flags = (if has_one_of flags 5 then 1 ∷ [] else []) ++ (if has_one_of flags 10 then 2 ∷ [] else [])
 needed Ip4 flags = 4 ∷ []
 needed Ip6 flags = 8 ∷ []
 needed Ether flags = 16 ∷ []

@@ -1,7 +1,8 @@
 -- The members that are attached, each to its interface.
-use Rattle.std.specs.Prelude.{ℕ, ◌==◌, ◌&&◌, Bool, true, bit_and, not, List, find, filter}
+use Rattle.std.specs.Prelude.{ℕ, ◌==◌, ◌&&◌, Bool, true, not, List, find, filter}
 use Rattle.std.specs.List.{list_any}
 use Rattle.std.specs.Option.{option_map_or}
+use Rattle.filter_rules.specs.Rule.{has_one_of}
 use Rattle.xdp_state.specs.declared.attachment.Attachment.{Attachment}
 use Rattle.xdp_state.specs.declared.attachment.Kind.{Kind}
 use Rattle.xdp_state.specs.declared.attachment.Kind.TheVariants.{Filter}
@@ -28,13 +29,9 @@ members_off members interface = filter (λ m. not (m.interface == interface)) me
 abbrev pub members_without : List Attachment → ℕ → ℕ → List Attachment
 members_without members interface number = filter (λ m. not ((m.interface == interface) && (m.number == number))) members
 
--- some of these bits are set
-abbrev pub has_bits : ℕ → ℕ → Bool
-has_bits bits some = not (bit_and bits some == 0)
-
 -- a filter with this feature
 abbrev pub has_feature : ℕ → Kind → Bool
-has_feature feature (Filter policy features) = has_bits features feature
+has_feature feature (Filter policy features) = has_one_of features feature
 
 -- the feature is on in some filter
 abbrev pub is_on : List Attachment → ℕ → Bool

@@ -1,5 +1,5 @@
 -- How a processor's own fields stand for its way, and the room of a frame.
-use Rattle.std.specs.Prelude.{◌≤◌, vec_capacity, Option}
+use Rattle.std.specs.Prelude.{◌≤◌, vec_capacity}
 use Rattle.std.specs.Option.{option_map}
 use Rattle.xdp_state.specs.Carrier.{Carrier}
 use Rattle.xdp_state.specs.declared.own.Own.TheInside.{Inside}

@@ -1,6 +1,6 @@
 -- The sums over the packets that were carried.
-use Rattle.std.specs.Prelude.{ℕ, ◌+◌, ◌==◌, List, [], ◌∷◌, ◌++◌, zero, suc, max, count_by, sum_by, if◌then◌else◌}
-use Rattle.std.specs.List.{filter_map}
+use Rattle.std.specs.Prelude.{ℕ, ◌+◌, ◌==◌, List, [], ◌∷◌, zero, suc, max, count_by, sum_by, if◌then◌else◌}
+use Rattle.std.specs.List.{filter_map, flat_map}
 use Rattle.xio.specs.declared.action.Action.{Action}
 use Rattle.xio.specs.Action.{number}
 use Rattle.xdp_state.specs.Capped.{capped}
@@ -31,8 +31,7 @@ by_action f = f 0 ∷ f 1 ∷ f 2 ∷ f 3 ∷ f 4 ∷ []
 
 -- the numbers of all visits of the packets that name a row
 abbrev pub named : List Counted → List ℕ
-named [] = []
-named (c ∷ cs) = c.rules ++ named cs
+named carried = flat_map (λ c. c.rules) carried
 
 -- how often a number is named
 abbrev pub times : List ℕ → ℕ → ℕ

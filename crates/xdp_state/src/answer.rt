@@ -1,9 +1,10 @@
-ghost use Rattle.std.specs.Prelude.{◌≡◌, ◌≤◌, ◌<◌, ◌==◌, ◌&&◌, true, length, position, find};
-ghost use Rattle.std.specs.Option.{option_map};
+ghost use Rattle.std.specs.Prelude.{◌≡◌, ◌≤◌, ◌<◌, ◌==◌, not, true, length, find, position, Some, None, IfSome, if◌then◌else◌};
+ghost use Rattle.std.specs.List.{list_any};
+ghost use Rattle.std.specs.Option.{is_some};
 ghost use Rattle.xdp_state.specs.Answer.{answer, load_answer, unload_answer, set_answer, clear_answer, rule_fits, lacks_feature};
 ghost use Rattle.xdp_state.specs.Book.{takes};
-ghost use Rattle.xdp_state.specs.Interfaces.{has_name};
-ghost use Rattle.xdp_state.specs.Members.{members_off, has_filter, is_on};
+ghost use Rattle.xdp_state.specs.Interfaces.{has_name, is_declared, interface_named};
+ghost use Rattle.xdp_state.specs.Members.{members_of, has_filter, filter_number, is_on};
 ghost use Rattle.xdp_state.specs.declared.change.Change.{Change};
 ghost use Rattle.xdp_state.specs.declared.judgement.Judgement.TheVariants.{Accepted};
 
@@ -64,10 +65,9 @@ fn judge_load(
 ) -> Judgement
     ensures { result ≡ load_answer interfaces.now state.now name.now kind mode }
 {
-    let Some(interface) = named(interfaces.as_slice(), name) else {
+    let Some(interface) = place_of(interfaces, name) else {
         return Judgement::Refused(Reason::NoInterface);
     };
-    let interface = interface as u32;
     if filter_on(state.members(), interface).is_some() {
         return Judgement::Refused(Reason::FilterThere);
     }
@@ -84,10 +84,9 @@ fn judge_load(
 fn judge_unload(state: &State, interfaces: &InterfaceList, name: &[u8], keep: bool) -> Judgement
     ensures { result ≡ unload_answer interfaces.now state.now name.now keep }
 {
-    let Some(interface) = named(interfaces.as_slice(), name) else {
+    let Some(interface) = place_of(interfaces, name) else {
         return Judgement::Refused(Reason::NoInterface);
     };
-    let interface = interface as u32;
     let Some(number) = filter_on(state.members(), interface) else {
         return Judgement::Refused(Reason::FilterNotThere);
     };
@@ -101,7 +100,7 @@ fn judge_unload(state: &State, interfaces: &InterfaceList, name: &[u8], keep: bo
 fn judge_set(state: &State, key: RuleKey, flags: u8) -> Judgement
     ensures { result ≡ set_answer state.now key flags }
 {
-    if state.members().is_empty() {
+    if !has_filter(state.members()) {
         return Judgement::Refused(Reason::FilterNotThere);
     }
     if lacks_feature(state.members(), key.kind, flags) {
@@ -116,13 +115,23 @@ fn judge_set(state: &State, key: RuleKey, flags: u8) -> Judgement
 fn judge_clear(state: &State, key: RuleKey, flags: u8) -> Judgement
     ensures { result ≡ clear_answer state.now key flags }
 {
-    if state.members().is_empty() {
+    if !has_filter(state.members()) {
         return Judgement::Refused(Reason::FilterNotThere);
     }
     if !state.rules().has_rule(key, flags) {
         return Judgement::Refused(Reason::NoSuchRule);
     }
     Judgement::Accepted(Change::ClearRule { key, flags })
+}
+
+/// The number of the interface of this name.
+#[tactic(auto, using(crate::proofs::Judging::places))]
+fn place_of(interfaces: &InterfaceList, name: &[u8]) -> Option<u32>
+    ensures { result ≡ (if is_declared interfaces.now name.now then Some (interface_named interfaces.now name.now) else None) }
+{
+    let place = named(interfaces.as_slice(), name)?;
+    prove!(place < interfaces.len() as usize);
+    Some(place as u32)
 }
 
 /// The place of the interface of this name.
@@ -134,17 +143,36 @@ fn named(interfaces: &[Interface], name: &[u8]) -> Option<usize>
         .position(|interface| interface.name.as_slice() == name)
 }
 
-/// The number of the interface's filter. Each member is a filter.
-fn filter_on(members: &[Attachment], interface: u32) -> Option<u32>
-    ensures { result ≡ option_map (λ m. m.number) (find (λ m. m.interface == interface) members.now) }
+/// Whether there is a filter. Each member is one.
+fn has_filter(members: &[Attachment]) -> bool
+    ensures { result ≡ has_filter members.now }
 {
-    let member = members.iter().find(|member| member.interface == interface)?;
+    !members.is_empty()
+}
+
+/// The number of the interface's filter.
+#[tactic(auto, using(crate::proofs::Judging::filter_there))]
+fn filter_on(members: &[Attachment], interface: u32) -> Option<u32>
+    ensures there { is_some result ≡ has_filter (members_of members.now interface) }
+    ensures number { IfSome result (λ number. number ≡ filter_number (members_of members.now interface)) }
+{
+    let member = member_on(members, interface)?;
     Some(member.number)
+}
+
+/// The interface's first member, which is its filter.
+fn member_on(members: &[Attachment], interface: u32) -> Option<Attachment>
+    ensures { result ≡ find (λ m. m.interface == interface) members.now }
+{
+    members
+        .iter()
+        .copied()
+        .find(|member| member.interface == interface)
 }
 
 /// Whether another interface has a filter. Each member is one.
 fn is_elsewhere(members: &[Attachment], interface: u32) -> bool
-    ensures { result ≡ has_filter (members_off members.now interface) }
+    ensures { result ≡ list_any (λ m. not (m.interface == interface)) members.now }
 {
     members.iter().any(|member| member.interface != interface)
 }

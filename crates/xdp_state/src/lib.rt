@@ -12,6 +12,8 @@ mod judgement;
 mod own;
 mod state;
 mod tally;
+#[cfg(test)]
+mod tests;
 mod traversal;
 
 pub use answer::judge;

@@ -205,7 +205,7 @@ mod tests {
     use super::*;
     use crate::attachment::Mode;
     use crate::change::Change;
-    use filter_rules::{Policy, RuleKey};
+    use filter_rules::{Policy, RuleKey, features};
     use std::test::Fail;
 
     #[test]
@@ -215,7 +215,7 @@ mod tests {
             interface: 3,
             kind: Kind::Filter {
                 policy: Policy::Allow,
-                features: 16,
+                features: features::ETHERNET | features::IPV4,
             },
             priority: 10,
             rank: 0,
@@ -226,23 +226,32 @@ mod tests {
             key: RuleKey::ether(0x0200_0000_0001),
             flags: 2,
         });
-        // the last byte of the target, and what becomes of the frame
-        let rows = [(1, Action::Drop, Some(2)), (3, Action::Pass, None)];
+        // the last byte of the target, the frame's type, and what becomes of the frame; in IPv4's header it ends too early
+        let rows = [
+            (1, [0x88, 0xB5], Action::Drop, Some(2)),
+            (3, [0x88, 0xB5], Action::Pass, None),
+            (3, [0x08, 0x00], Action::Aborted, None),
+        ];
         let mut own = Own::new(rt.alloc(), 3)?;
-        for (last, action, rule) in rows {
-            let frame = [2, 0, 0, 0, 0, last, 2, 0, 0, 0, 0, 2, 0x88, 0xB5];
+        for (last, kind, action, rule) in rows {
+            let frame = [2, 0, 0, 0, 0, last, 2, 0, 0, 0, 0, 2, kind[0], kind[1]];
             own.prepare(&state)?;
             traverse(&state, &mut own, &frame);
-            assert_eq!(rt; own.verdict(), action);
-            let trip = own.trip(rt.alloc())?;
             let visit = Visit {
                 number: 1,
                 action,
                 rule,
+                target: 0,
             };
-            assert_eq!(rt; trip.visits.as_slice(), [visit].as_slice());
-            assert_eq!(rt; trip.verdict, action);
-            assert_eq!(rt; trip.frame.as_slice(), frame.as_slice());
+            let trip = own.trip(rt.alloc())?;
+            assert_eq!(rt; (own.verdict(), own.target()), (action, 0));
+            assert_eq!(rt; (trip.verdict, trip.target), (action, 0));
+            for visits in [own.visits(), trip.visits.as_slice()] {
+                assert_eq!(rt; visits, [visit].as_slice());
+            }
+            for bytes in [own.frame(), trip.frame.as_slice()] {
+                assert_eq!(rt; bytes, frame.as_slice());
+            }
         }
         Ok(())
     }

@@ -17,7 +17,7 @@ pub struct Tally {
 
 impl Tally {
     ghost use Rattle.xdp_state.specs.Hits.{hits_in};
-    ghost use Rattle.xdp_state.specs.Sums.{Counted, tally_of, rules_of};
+    ghost use Rattle.xdp_state.specs.Sums.{Counted, tally_of, rules_of, named, times};
 
     /// No packets.
     pub fn new(alloc: Global) -> Self

@@ -1,5 +1,5 @@
 use Rattle.std.proofs.Common.{arith, ◌<◌, length}
-use Rattle.xdp_state.specs.Book.{members_of}
+use Rattle.xdp_state.specs.Members.{members_of}
 use Rattle.xdp_state.proofs.Members.{has_place-empty, room-one}
 use Rattle.xdp_state.proofs.state.State.attach.Goals as goal
 
