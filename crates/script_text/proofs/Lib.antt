@@ -6,4 +6,5 @@ pub mod Ip6Lemmas
 pub mod LineLemmas
 pub mod NumberLemmas
 pub mod PartLemmas
+pub mod TableLemmas
 pub mod WordLemmas

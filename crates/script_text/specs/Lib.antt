@@ -9,5 +9,7 @@ pub mod Numbers
 pub mod Options
 pub mod Readings
 pub mod Script
+pub mod Table
 pub mod Texts
+pub mod Trace
 pub mod Words

@@ -1,7 +1,6 @@
 -- The printed texts. Numbers are decimal, and every line ends with a line feed.
-use Rattle.std.specs.Prelude.{ℕ, ◌/◌, ◌%◌, ◌^◌, ◌*◌, ◌==◌, bit_and, List, [], ◌∷◌, ◌++◌, length, sum, slice_index, codes, flat_map, if◌then◌else◌}
+use Rattle.std.specs.Prelude.{ℕ, List, ◌++◌, sum, slice_index, codes}
 use Rattle.std.specs.Fmt.{decimal}
-use Rattle.hex.specs.Hex.{encode_lower}
 use Rattle.xdp_state.specs.declared.judgement.Reason.{Reason}
 use Rattle.xdp_state.specs.declared.judgement.Reason.TheVariants.{NoInterface, FilterThere, FilterNotThere, FeatureMissing, RulesFull, NoSuchRule}
 use Rattle.xdp_state.specs.declared.tally.Tally.{Tally}
