@@ -49,7 +49,7 @@ fn take_word<'a>(
     ensures words { let so_far = arrangement words.entry.given (option_map (λ own. own.now) words.entry.own) in
         MatchResult result
         (λ read. arranged_behind verb so_far (word.now ∷ words_of behind.now)
-            ≡ arranged_behind verb (arrangement read.0.given (option_map (λ own. own.now) read.0.own)) (words_of read.1.now))
+        ≡ arranged_behind verb (arrangement read.0.given (option_map (λ own. own.now) read.0.own)) (words_of read.1.now))
         (λ rule. arranged_behind verb so_far (word.now ∷ words_of behind.now) ≡ Err rule) }
     ensures shorter { IfOk result (λ read. length read.1.now ≤ length behind.now) }
 {

@@ -42,8 +42,10 @@ fn load_of(alloc: Global, name: &[u8], given: Given) -> Result<Command, LineEnd>
     let policy = or_else(given.policy, Policy::Allow);
     let features = or_else(given.features, ALL_FEATURES);
     let mode = or_else(given.mode, Mode::Native);
-    let ((), (mode, (policy, features))) =
-        both(keeps(5, is_name(name)), both(mode, both(policy, features)))?;
+    let ((), (mode, (policy, features))) = both(
+        keeps(5, is_name(name)),
+        both(mode, both(policy, features)),
+    )?;
     Ok(Command::FilterLoad {
         interface: bytes_of(alloc, name)?,
         mode,

@@ -33,3 +33,6 @@ pub use script::{Script, ScriptEnd, read_script};
 pub use table::rules_text;
 pub use trace::{TraceRow, trace_line};
 pub use what::{Line, LineList, What};
+
+#[cfg(test)]
+mod tests;

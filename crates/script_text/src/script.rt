@@ -4,8 +4,8 @@ ghost use Rattle.script_text.specs.Handed.{has_frame, has_processor, has_flags};
 ghost use Rattle.script_text.specs.Interfaces.{queue_count};
 ghost use Rattle.script_text.specs.Script.{script_of, Agrees};
 
-use crate::lines::{has_more_lines, split_line};
 use crate::line::read_line;
+use crate::lines::{has_more_lines, split_line};
 use crate::reading::LineEnd;
 use crate::what::LineList;
 use std::alloc::Global;

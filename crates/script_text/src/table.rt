@@ -121,11 +121,7 @@ fn action_line(alloc: Global, action: &str, packets: u64, bytes: u64) -> Result<
 
 /// Packets and bytes by verdict.
 #[tactic(auto, unfolding(crate::specs::Table::verdicts_text))]
-fn verdicts_text(
-    alloc: Global,
-    packets: &[u64; 5],
-    bytes: &[u64; 5],
-) -> Result<Bytes, OutOfMemory>
+fn verdicts_text(alloc: Global, packets: &[u64; 5], bytes: &[u64; 5]) -> Result<Bytes, OutOfMemory>
     ensures { IfOk result (λ text. text ≡ verdicts_text packets.now bytes.now) }
 {
     let mut text = Bytes::new(alloc);

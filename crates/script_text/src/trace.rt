@@ -28,12 +28,7 @@ fn action_text(action: Action) -> &'static str
     }
 }
 
-fn packet_text(
-    alloc: Global,
-    processor: u32,
-    place: u32,
-    count: u32,
-) -> Result<String, AllocError>
+fn packet_text(alloc: Global, processor: u32, place: u32, count: u32) -> Result<String, AllocError>
     ensures { IfOk result (λ text. string_bytes text ≡ packet_text processor place count) }
 {
     format!(in alloc; "{processor} {place} {count} ")

@@ -6,10 +6,7 @@ use xio::{Bytes, List};
 pub enum What {
     Command(Command),
     /// A packet is handed in to the processor of its queue.
-    Packet {
-        processor: u32,
-        frame: Bytes,
-    },
+    Packet { processor: u32, frame: Bytes },
     Barrier,
 }
 
