@@ -1,0 +1,10 @@
+pub mod ArrangedLemmas
+pub mod EthernetLemmas
+pub mod FrameLemmas
+pub mod HandedLemmas
+pub mod Ip6Lemmas
+pub mod LineLemmas
+pub mod NumberLemmas
+pub mod PartLemmas
+pub mod TableLemmas
+pub mod WordLemmas

@@ -1,7 +1,15 @@
 pub mod Addresses
+pub mod Filter
 pub mod Frames
 pub mod Handed
+pub mod Interfaces
+pub mod Lists
 pub mod Names
+pub mod Numbers
+pub mod Options
+pub mod Readings
 pub mod Script
+pub mod Table
 pub mod Texts
+pub mod Trace
 pub mod Words

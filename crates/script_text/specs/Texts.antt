@@ -1,20 +1,27 @@
 -- The printed texts. Numbers are decimal, and every line ends with a line feed.
-use Rattle.std.specs.Prelude.{ℕ, List, [], ◌++◌, sum, slice_index, codes}
+use Rattle.std.specs.Prelude.{ℕ, List, ◌++◌, sum, slice_index, codes}
 use Rattle.std.specs.Fmt.{decimal}
+use Rattle.xdp_state.specs.declared.judgement.Reason.{Reason}
+use Rattle.xdp_state.specs.declared.judgement.Reason.TheVariants.{NoInterface, FilterThere, FilterNotThere, FeatureMissing, RulesFull, NoSuchRule}
 use Rattle.xdp_state.specs.declared.tally.Tally.{Tally}
 use Rattle.script_text.specs.declared.outcome.Outcome.{Outcome}
-use Rattle.xio.specs.declared.action.Action.{Action}
-use Rattle.xdp_state.specs.Book.{Book}
-use Rattle.xdp_state.specs.declared.interface.Interface.{Interface}
+use Rattle.script_text.specs.declared.outcome.Outcome.TheVariants as outcome
 
+abbrev pub reason_text : Reason → List ℕ
+reason_text NoInterface = codes "no such interface"
+reason_text FilterThere = codes "filter there"
+reason_text FilterNotThere = codes "filter not there"
+reason_text FeatureMissing = codes "feature missing"
+reason_text RulesFull = codes "rules full"
+reason_text NoSuchRule = codes "no such rule"
+
+-- what came of a line, without the lines of a table or of processors
 unfoldable pub outcome_text : ℕ → Outcome → List ℕ
-outcome_text line outcome = []
-
-unfoldable pub rules_text : List Interface → Book → Tally → List ℕ
-rules_text interfaces book tally = []
-
-unfoldable pub trace_line : ℕ → ℕ → ℕ → Action → ℕ → List ℕ → List ℕ
-trace_line processor place count verdict target frame = []
+outcome_text line (outcome.Ok number) = decimal line ++ (codes " ok " ++ (decimal number ++ codes "\n"))
+outcome_text line outcome.Shown = decimal line ++ codes " ok\n"
+outcome_text line (outcome.Refused reason) = decimal line ++ (codes " refused " ++ (reason_text reason ++ codes "\n"))
+outcome_text line (outcome.Handed packets) = decimal line ++ (codes " handed " ++ (decimal packets ++ codes "\n"))
+outcome_text line (outcome.Barrier count) = decimal line ++ (codes " barrier " ++ (decimal count ++ codes "\n"))
 
 -- the script's end
 unfoldable pub end_text : ℕ → List ℕ

@@ -1,8 +1,12 @@
 ghost use Rattle.std.specs.Prelude.{◌≡◌, ◌≤◌, true, length, IfOk};
 ghost use Rattle.std.specs.List.{list_all};
-ghost use Rattle.script_text.specs.Handed.{has_frame, has_flags};
+ghost use Rattle.script_text.specs.Handed.{has_frame, has_processor, has_flags};
+ghost use Rattle.script_text.specs.Interfaces.{queue_count};
 ghost use Rattle.script_text.specs.Script.{script_of, Agrees};
 
+use crate::line::read_line;
+use crate::lines::{has_more_lines, split_line};
+use crate::reading::LineEnd;
 use crate::what::LineList;
 use std::alloc::Global;
 use xdp_state::InterfaceList;
@@ -25,13 +29,34 @@ pub enum ScriptEnd {
     OutOfMemory,
 }
 
-/// The script of some bytes.
+/// The script of some bytes. A bad script ends with its first bad line, and with the least rule that the line breaks.
+#[tactic(auto, unfolding(crate::specs::Script::script_of))]
 pub fn read_script(alloc: Global, bytes: &[u8]) -> Result<Script, ScriptEnd>
     ensures script { Agrees result (script_of bytes.now) }
     ensures frames { IfOk result (λ script. list_all has_frame script.lines ≡ true) }
+    ensures processors { IfOk result (λ script. list_all (has_processor (queue_count script.interfaces)) script.lines ≡ true) }
     ensures rules { IfOk result (λ script. list_all has_flags script.lines ≡ true) }
-    ensures interfaces { IfOk result (λ script. length script.interfaces ≤ 8) }
     ensures lines { IfOk result (λ script. length script.lines ≤ 65536) }
+    ensures interfaces { IfOk result (λ script. length script.interfaces ≤ 8) }
+    ensures queues { IfOk result (λ script. queue_count script.interfaces ≤ 8) }
 {
-    Err(ScriptEnd::OutOfMemory)
+    if has_more_lines(bytes, MOST_LINES) {
+        return Err(ScriptEnd::TooManyLines);
+    }
+    let mut script = Script {
+        interfaces: InterfaceList::new(alloc),
+        lines: LineList::new(alloc),
+    };
+    let mut line = 0;
+    let mut rest = bytes;
+    while let Some((text, behind)) = split_line(rest) {
+        line += 1;
+        rest = behind;
+        script = match read_line(alloc, script, line, text) {
+            Ok(script) => script,
+            Err(LineEnd::BadLine { rule }) => return Err(ScriptEnd::BadScript { line, rule }),
+            Err(LineEnd::OutOfMemory) => return Err(ScriptEnd::OutOfMemory),
+        };
+    }
+    Ok(script)
 }

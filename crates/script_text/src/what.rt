@@ -5,6 +5,7 @@ use xio::{Bytes, List};
 #[derive(Debug, Drop)]
 pub enum What {
     Command(Command),
+    /// A packet is handed in to the processor of its queue.
     Packet { processor: u32, frame: Bytes },
     Barrier,
 }
@@ -16,5 +17,5 @@ pub struct Line {
     pub what: What,
 }
 
-/// Lines in the order of the script; declarations of interfaces are none.
+/// Lines in the order of the script; declarations of interfaces, blank lines and comments are none.
 pub type LineList = List<Line>;

@@ -1,0 +1,33 @@
+-- Readings of a line and its parts: a value, or the number of the least rule that is broken.
+use Rattle.std.specs.Prelude.{◌≡◌, ℕ, min, Bool, true, false, Option, Some, None, Result, Ok, Err, ⊤}
+use Rattle.script_text.specs.declared.reading.LineEnd.{LineEnd}
+use Rattle.script_text.specs.declared.reading.LineEnd.TheVariants.{BadLine, OutOfMemory}
+
+-- a reading that goes on from what was read
+infixl 10 ◌>>=◌
+abbrev pub ◌>>=◌ : {A B E : Type 0} → Result A E → (A → Result B E) → Result B E
+Ok x >>= f = f x
+Err e >>= f = Err e
+
+-- both readings, or the least rule that one of them breaks
+abbrev pub both : {A B : Type 0} → Result A ℕ → Result B ℕ → Result (A × B) ℕ
+both (Ok a) (Ok b) = Ok (a, b)
+both (Ok a) (Err rule) = Err rule
+both (Err rule) (Ok b) = Err rule
+both (Err rule) (Err other) = Err (min rule other)
+
+-- the rule, kept where the test holds
+abbrev pub keeps : ℕ → Bool → Result (Unit {0}) ℕ
+keeps rule true = Ok tt
+keeps rule false = Err rule
+
+-- what was found, or else the rule that is broken
+abbrev pub found : {A : Type 0} → ℕ → Option A → Result A ℕ
+found rule (Some x) = Ok x
+found rule None = Err rule
+
+-- The answer is the reading that is wanted; only want of memory is free.
+abbrev pub Reads : {A : Type 0} → Result A LineEnd → Result A ℕ → Type 0
+Reads (Ok x) wanted = wanted ≡ Ok x
+Reads (Err (BadLine rule)) wanted = wanted ≡ Err rule
+Reads (Err OutOfMemory) wanted = ⊤

@@ -1,0 +1,152 @@
+ghost use Rattle.std.specs.Prelude.{◌≡◌, ◌+◌, ◌≤◌, true, length, IfOk};
+ghost use Rattle.script_text.specs.Handed.{IsSound, asks_frame, asks_processor, asks_flags};
+ghost use Rattle.script_text.specs.Interfaces.{queue_count, packet_of};
+ghost use Rattle.script_text.specs.Readings.{Reads};
+ghost use Rattle.script_text.specs.Script.{interface_line, packet_line, what_of, read_line};
+ghost use Rattle.script_text.specs.Words.{words_of};
+
+use crate::filter::filter_line;
+use crate::frame::frame;
+use crate::interfaces::{hand_in_of, interface_of};
+use crate::reading::LineEnd;
+use crate::script::Script;
+use crate::text::bytes_of;
+use crate::what::{Line, What};
+use crate::words::{are_printable, is_comment, is_option, next_word};
+use std::alloc::Global;
+use xdp_state::Interface;
+
+/// Words are missing or too many, or there is an option.
+const BAD_FORM: LineEnd = LineEnd::BadLine { rule: 3 };
+
+/// Reads `NAME QUEUES`.
+#[tactic(auto, unfolding(crate::specs::Script::interface_line))]
+fn interface_line(alloc: Global, mut script: Script, words: &[u8]) -> Result<Script, LineEnd>
+    requires { IsSound script }
+    ensures script { Reads result (interface_line script (words_of words.now)) }
+    ensures sound { IfOk result (λ read. IsSound read) }
+    ensures lines { IfOk result (λ read. read.lines ≡ script.lines) }
+{
+    let Some((name, behind)) = next_word(words) else {
+        return Err(BAD_FORM);
+    };
+    let Some((queues, behind)) = next_word(behind) else {
+        return Err(BAD_FORM);
+    };
+    if next_word(behind).is_some() || is_option(name) || is_option(queues) {
+        return Err(BAD_FORM);
+    }
+    let first = script.lines.len() == 0;
+    let queues = interface_of(script.interfaces.as_slice(), first, name, queues)?;
+    let name = bytes_of(alloc, name)?;
+    script.interfaces.push(Interface { name, queues })?;
+    Ok(script)
+}
+
+/// The packet of a hand-in's words.
+#[tactic(auto, unfolding(crate::specs::Interfaces::packet_of), using(crate::proofs::HandedLemmas::least))]
+fn packet_of(
+    alloc: Global,
+    interfaces: &[Interface],
+    name: &[u8],
+    queue: &[u8],
+    digits: &[u8],
+) -> Result<What, LineEnd>
+    requires { queue_count interfaces.now ≤ 8 }
+    ensures what { Reads result (packet_of interfaces.now name.now queue.now digits.now) }
+    ensures frame { IfOk result (λ what. asks_frame what ≡ true) }
+    ensures processor { IfOk result (λ what. asks_processor (queue_count interfaces.now) what ≡ true) }
+    ensures flags { IfOk result (λ what. asks_flags what ≡ true) }
+{
+    let processor = match hand_in_of(interfaces, name, queue) {
+        Ok(processor) => processor,
+        Err(rule) => return Err(LineEnd::BadLine { rule }),
+    };
+    match frame(alloc, digits)? {
+        Some(frame) => Ok(What::Packet { processor, frame }),
+        None => Err(LineEnd::BadLine { rule: 10 }),
+    }
+}
+
+/// Reads `NAME QUEUE HEX`.
+#[tactic(auto, unfolding(crate::specs::Script::packet_line))]
+fn packet_line(alloc: Global, interfaces: &[Interface], words: &[u8]) -> Result<What, LineEnd>
+    requires { queue_count interfaces.now ≤ 8 }
+    ensures what { Reads result (packet_line interfaces.now (words_of words.now)) }
+    ensures frame { IfOk result (λ what. asks_frame what ≡ true) }
+    ensures processor { IfOk result (λ what. asks_processor (queue_count interfaces.now) what ≡ true) }
+    ensures flags { IfOk result (λ what. asks_flags what ≡ true) }
+{
+    let Some((name, behind)) = next_word(words) else {
+        return Err(BAD_FORM);
+    };
+    let Some((queue, behind)) = next_word(behind) else {
+        return Err(BAD_FORM);
+    };
+    let Some((digits, behind)) = next_word(behind) else {
+        return Err(BAD_FORM);
+    };
+    if next_word(behind).is_some() || is_option(name) || is_option(queue) || is_option(digits) {
+        return Err(BAD_FORM);
+    }
+    packet_of(alloc, interfaces, name, queue, digits)
+}
+
+/// Reads a line that asks for something, by its first word and those behind it.
+#[tactic(auto, unfolding(crate::specs::Script::what_of))]
+fn what_of(
+    alloc: Global,
+    interfaces: &[Interface],
+    command: &[u8],
+    words: &[u8],
+) -> Result<What, LineEnd>
+    requires { queue_count interfaces.now ≤ 8 }
+    ensures what { Reads result (what_of interfaces.now command.now (words_of words.now)) }
+    ensures frame { IfOk result (λ what. asks_frame what ≡ true) }
+    ensures processor { IfOk result (λ what. asks_processor (queue_count interfaces.now) what ≡ true) }
+    ensures flags { IfOk result (λ what. asks_flags what ≡ true) }
+{
+    if command == b"xdp-filter".as_slice() {
+        return Ok(What::Command(filter_line(alloc, words)?));
+    }
+    if command == b"packet".as_slice() {
+        return packet_line(alloc, interfaces, words);
+    }
+    if command != b"barrier".as_slice() {
+        return Err(LineEnd::BadLine { rule: 2 });
+    }
+    if next_word(words).is_some() {
+        return Err(BAD_FORM);
+    }
+    Ok(What::Barrier)
+}
+
+/// Reads the line of the number behind those of the script.
+#[tactic(auto, unfolding(crate::specs::Script::read_line), using(crate::proofs::HandedLemmas::handed))]
+pub fn read_line(
+    alloc: Global,
+    mut script: Script,
+    number: u32,
+    line: &[u8],
+) -> Result<Script, LineEnd>
+    requires { IsSound script }
+    ensures script { Reads result (read_line script number line.now) }
+    ensures sound { IfOk result (λ read. IsSound read) }
+    ensures lines { IfOk result (λ read. length read.lines ≤ length script.lines + 1) }
+{
+    let Some((command, words)) = next_word(line) else {
+        return Ok(script);
+    };
+    if is_comment(command) {
+        return Ok(script);
+    }
+    if !are_printable(line) {
+        return Err(LineEnd::BadLine { rule: 1 });
+    }
+    if command == b"interface".as_slice() {
+        return interface_line(alloc, script, words);
+    }
+    let what = what_of(alloc, script.interfaces.as_slice(), command, words)?;
+    script.lines.push(Line { line: number, what })?;
+    Ok(script)
+}

@@ -1,0 +1,50 @@
+ghost use Rattle.std.specs.Prelude.{◌≡◌};
+ghost use Rattle.script_text.specs.Readings.{both, keeps};
+ghost use Rattle.script_text.specs.declared.reading.LineEnd.{LineEnd};
+ghost use Rattle.script_text.specs.declared.reading.LineEnd.TheVariants as end;
+
+use xio::OutOfMemory;
+
+/// The number of a rule of the script.
+pub type Rule = u8;
+
+/// Why a line isn't read.
+#[derive(Clone, Copy, Debug, PartialEq, Eq)]
+pub enum LineEnd {
+    BadLine { rule: Rule },
+    OutOfMemory,
+}
+
+impl From<OutOfMemory> for LineEnd {
+    ghost from_gives = { λ _ e. e ≡ end.OutOfMemory };
+
+    fn from(_: OutOfMemory) -> Self {
+        LineEnd::OutOfMemory
+    }
+}
+
+impl From<Rule> for LineEnd {
+    ghost from_gives = { λ rule e. e ≡ end.BadLine rule };
+
+    fn from(rule: Rule) -> Self {
+        LineEnd::BadLine { rule }
+    }
+}
+
+/// Both readings, or the least rule that one of them breaks.
+pub fn both<A: Copy, B: Copy>(a: Result<A, Rule>, b: Result<B, Rule>) -> Result<(A, B), Rule>
+    ensures { result ≡ both a b }
+{
+    match (a, b) {
+        (Ok(a), Ok(b)) => Ok((a, b)),
+        (Ok(_), Err(rule)) | (Err(rule), Ok(_)) => Err(rule),
+        (Err(rule), Err(other)) => Err(rule.min(other)),
+    }
+}
+
+/// The rule, kept where the test holds.
+pub fn keeps(rule: Rule, test: bool) -> Result<(), Rule>
+    ensures { result ≡ keeps rule test }
+{
+    if test { Ok(()) } else { Err(rule) }
+}

@@ -1,0 +1,158 @@
+use crate::{Script, What, read_script};
+use filter_rules::{Policy, RuleKey};
+use std::alloc::Global;
+use std::test::Fail;
+use xdp_state::{Command, Mode};
+
+/// The rule of a script of one line: its key, its flags, and whether it is removed.
+fn rule_of(alloc: Global, line: &str) -> Option<(RuleKey, u8, bool)> {
+    let script = read_script(alloc, line.as_bytes()).ok()?;
+    match &script.lines.as_slice().first()?.what {
+        What::Command(Command::FilterRule { key, flags, remove }) => Some((*key, *flags, *remove)),
+        _ => None,
+    }
+}
+
+#[test]
+fn rules(rt: HostRuntime) -> Result<(), Fail> {
+    let port = RuleKey::port(53);
+    let ip4 = RuleKey::ip4(0x0A00_0107);
+    let ip6 = RuleKey::ip6(0x2001_0DB8_0000_0000_0000_0000_0000_0001);
+    let ether = RuleKey::ether(0x0200_0000_00AB);
+    let rules = [
+        ("port 53", (port, 12, false)),
+        ("port 00053 -m src", (port, 3, false)),
+        ("port 53 --mode dst,src", (port, 15, false)),
+        ("port -p tcp 53", (port, 4, false)),
+        ("port 53 --proto udp -m src,dst", (port, 10, false)),
+        ("port 53 -r -m dst -p udp,tcp", (port, 12, true)),
+        ("port 53 --remove -p tcp -m src", (port, 1, true)),
+        ("ip 10.0.1.7", (ip4, 2, false)),
+        ("ip 010.000.01.7 -m src --remove", (ip4, 1, true)),
+        ("ip 2001:db8::1 --mode src,dst", (ip6, 3, false)),
+        ("ip 2001:0DB8:0:0:0:0:0:1 -r", (ip6, 2, true)),
+        ("ether 02:00:00:00:00:aB", (ether, 2, false)),
+        ("ether -m src 02:00:00:00:00:AB -r", (ether, 1, true)),
+        (
+            "ether --mode src,dst 02:00:00:00:00:ab --remove",
+            (ether, 3, true),
+        ),
+    ];
+    for (line, rule) in rules {
+        let line = format!(in rt.alloc(); "xdp-filter {line}")?;
+        assert_eq!(rt; rule_of(rt.alloc(), &line), Some(rule), "{line}");
+    }
+    Ok(())
+}
+
+#[test]
+fn addresses(rt: HostRuntime) -> Result<(), Fail> {
+    let addresses = [
+        ("::", 0),
+        ("::1", 1),
+        ("1::", 1 << 112),
+        ("::1:2:3:4:5:6:7", 0x0001_0002_0003_0004_0005_0006_0007),
+        ("1:2:3:4:5:6:7::", 0x0001_0002_0003_0004_0005_0006_0007_0000),
+        ("1:2:3:4:5:6:7:8", 0x0001_0002_0003_0004_0005_0006_0007_0008),
+        ("1:2:3::5:6:7:8", 0x0001_0002_0003_0000_0005_0006_0007_0008),
+        ("ffff::FFFF", (0xFFFF << 112) + 0xFFFF),
+    ];
+    for (address, number) in addresses {
+        let line = format!(in rt.alloc(); "xdp-filter ip {address}")?;
+        let rule = (RuleKey::ip6(number), 2, false);
+        assert_eq!(rt; rule_of(rt.alloc(), &line), Some(rule), "{line}");
+    }
+    Ok(())
+}
+
+/// What a script of one line loads on eth0: mode, policy and features.
+fn load_of(alloc: Global, line: &str) -> Option<(Mode, Policy, u8)> {
+    let script = read_script(alloc, line.as_bytes()).ok()?;
+    match &script.lines.as_slice().first()?.what {
+        What::Command(
+            Command::FilterLoad {
+                interface,
+                mode,
+                policy,
+                features,
+            },
+        ) if interface.as_slice() == b"eth0".as_slice() => Some((*mode, *policy, *features)),
+        _ => None,
+    }
+}
+
+#[test]
+fn loads(rt: HostRuntime) -> Result<(), Fail> {
+    let loads = [
+        ("", (Mode::Native, Policy::Allow, 31)),
+        ("-m skb", (Mode::Skb, Policy::Allow, 31)),
+        ("--mode native -p deny", (Mode::Native, Policy::Deny, 31)),
+        ("-m unspecified", (Mode::Native, Policy::Allow, 31)),
+        ("--policy allow -f tcp", (Mode::Native, Policy::Allow, 1)),
+        ("--features ethernet,udp", (Mode::Native, Policy::Allow, 18)),
+        ("-f ipv6,ipv4 -p deny -m skb", (Mode::Skb, Policy::Deny, 12)),
+        ("-f all", (Mode::Native, Policy::Allow, 31)),
+    ];
+    for (options, load) in loads {
+        let line = format!(in rt.alloc(); "xdp-filter load {options} eth0")?;
+        assert_eq!(rt; load_of(rt.alloc(), &line), Some(load), "{line}");
+    }
+    Ok(())
+}
+
+fn is_unload(what: &What, keeps: bool) -> bool {
+    match what {
+        What::Command(Command::FilterUnload { interface, keep }) => {
+            interface.as_slice() == b"eth0".as_slice() && *keep == keeps
+        }
+        _ => false,
+    }
+}
+
+fn is_packet(what: &What, of: u32) -> bool {
+    let bytes = [2, 0, 0, 0, 0, 1, 2, 0, 0, 0, 0, 2, 0x88, 0xB5];
+    match what {
+        What::Packet { processor, frame } => *processor == of
+            && frame.as_slice() == bytes.as_slice(),
+        _ => false,
+    }
+}
+
+const LINES: &str = "interface eth0 2
+interface eth1 3
+# hand-ins
+packet eth0 1 02000000000102000000000288b5
+packet eth1 2 02000000000102000000000288B5
+xdp-filter unload eth0
+xdp-filter unload eth0 -k
+xdp-filter unload --keep-maps eth0
+barrier
+xdp-filter status
+";
+
+fn are_lines(script: &Script) -> bool {
+    let [first, second, plain, short, long, barrier, status] = script.lines.as_slice() else {
+        return false;
+    };
+    first.line == 4
+        && is_packet(&first.what, 1)
+        && is_packet(&second.what, 4)
+        && is_unload(&plain.what, false)
+        && is_unload(&short.what, true)
+        && is_unload(&long.what, true)
+        && matches!(barrier.what, What::Barrier)
+        && matches!(status.what, What::Command(Command::FilterStatus))
+        && status.line == 10
+}
+
+#[test]
+fn lines(rt: HostRuntime) -> Result<(), Fail> {
+    let script = read_script(rt.alloc(), LINES.as_bytes()).ok().ok_or("bad")?;
+    assert!(rt; are_lines(&script));
+    let [eth0, eth1] = script.interfaces.as_slice() else {
+        return Err("not two interfaces")?;
+    };
+    assert!(rt; eth0.name.as_slice() == b"eth0".as_slice() && eth0.queues == 2);
+    assert!(rt; eth1.name.as_slice() == b"eth1".as_slice() && eth1.queues == 3);
+    Ok(())
+}
