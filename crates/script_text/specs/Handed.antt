@@ -1,9 +1,7 @@
 -- What holds of a script that is read.
 use Rattle.std.specs.Prelude.{◌≡◌, ℕ, ◌≤◌, ◌&&◌, Bool, true, nat_lt, nat_le, List, length}
 use Rattle.std.specs.List.{list_all}
-use Rattle.filter_rules.specs.Rule.{all_flags}
-use Rattle.xdp_state.specs.declared.command.Command.{Command}
-use Rattle.xdp_state.specs.declared.command.Command.TheVariants.{FilterRule}
+use Rattle.xdp_state.specs.Answer.{rule_fits}
 use Rattle.script_text.specs.Frames.{has_frame_size}
 use Rattle.script_text.specs.Interfaces.{queue_count}
 use Rattle.script_text.specs.declared.script.Script.{Script}
@@ -27,12 +25,8 @@ asks_processor processors _ = true
 abbrev pub has_processor : ℕ → Line → Bool
 has_processor processors line = asks_processor processors line.what
 
-abbrev pub commands_flags : Command → Bool
-commands_flags (FilterRule key flags remove) = nat_le 1 flags && nat_le flags (all_flags key.kind)
-commands_flags _ = true
-
 abbrev pub asks_flags : What → Bool
-asks_flags (what.Command command) = commands_flags command
+asks_flags (what.Command command) = rule_fits command
 asks_flags _ = true
 
 -- a line with a rule has some flags of the rule's kind

@@ -2,7 +2,7 @@ ghost use Rattle.std.specs.Prelude.{◌≡◌, ◌≤◌, true, IfOk, IfSome};
 ghost use Rattle.std.specs.Option.{option_map};
 ghost use Rattle.filter_rules.specs.Rule.{all_flags};
 ghost use Rattle.script_text.specs.Filter.{or_else, load_of, unload_of, direction_flags, protocol_flags, port_flags, port_of, address_rule, ether_key, ip_key, command_of, filter_line};
-ghost use Rattle.script_text.specs.Handed.{commands_flags};
+ghost use Rattle.xdp_state.specs.Answer.{rule_fits};
 ghost use Rattle.script_text.specs.Readings.{Reads};
 ghost use Rattle.script_text.specs.Words.{words_of};
 
@@ -37,7 +37,7 @@ fn or_else<T: Copy>(given: Option<Result<T, Rule>>, default: T) -> Result<T, Rul
 #[tactic(auto, unfolding(crate::specs::Filter::load_of))]
 fn load_of(alloc: Global, name: &[u8], given: Given) -> Result<Command, LineEnd>
     ensures command { Reads result (load_of name.now given) }
-    ensures flags { IfOk result (λ command. commands_flags command ≡ true) }
+    ensures flags { IfOk result (λ command. rule_fits command ≡ true) }
 {
     let policy = or_else(given.policy, Policy::Allow);
     let features = or_else(given.features, ALL_FEATURES);
@@ -58,7 +58,7 @@ fn load_of(alloc: Global, name: &[u8], given: Given) -> Result<Command, LineEnd>
 #[tactic(auto, unfolding(crate::specs::Filter::unload_of))]
 fn unload_of(alloc: Global, name: &[u8], given: Given) -> Result<Command, LineEnd>
     ensures command { Reads result (unload_of name.now given) }
-    ensures flags { IfOk result (λ command. commands_flags command ≡ true) }
+    ensures flags { IfOk result (λ command. rule_fits command ≡ true) }
 {
     keeps(5, is_name(name))?;
     Ok(Command::FilterUnload {
@@ -111,7 +111,7 @@ fn port_flags(directions: Directions, protocols: Protocols) -> u8
 #[tactic(auto, unfolding(crate::specs::Filter::port_of))]
 fn port_of(port: &[u8], given: Given) -> Result<Command, Rule>
     ensures command { result ≡ port_of port.now given }
-    ensures flags { IfOk result (λ command. commands_flags command ≡ true) }
+    ensures flags { IfOk result (λ command. rule_fits command ≡ true) }
 {
     let directions = or_else(given.directions, Directions::Target);
     let protocols = or_else(given.protocols, Protocols::Both);
@@ -133,7 +133,7 @@ fn port_of(port: &[u8], given: Given) -> Result<Command, Rule>
 fn address_rule(key: Option<RuleKey>, given: Given) -> Result<Command, Rule>
     requires { IfSome key (λ key. 3 ≤ all_flags key.kind) }
     ensures command { result ≡ address_rule key given }
-    ensures flags { IfOk result (λ command. commands_flags command ≡ true) }
+    ensures flags { IfOk result (λ command. rule_fits command ≡ true) }
 {
     let directions = or_else(given.directions, Directions::Target);
     let (directions, key) = both(directions, key.ok_or(12))?;
@@ -181,7 +181,7 @@ fn command_of(
     own: Option<&[u8]>,
 ) -> Result<Command, LineEnd>
     ensures command { Reads result (command_of verb given (option_map (λ own. own.now) own.entry)) }
-    ensures flags { IfOk result (λ command. commands_flags command ≡ true) }
+    ensures flags { IfOk result (λ command. rule_fits command ≡ true) }
 {
     match (verb, own) {
         (Verb::Load, Some(name)) => load_of(alloc, name, given),
@@ -198,7 +198,7 @@ fn command_of(
 #[tactic(auto, unfolding(crate::specs::Filter::filter_line))]
 pub fn filter_line(alloc: Global, words: &[u8]) -> Result<Command, LineEnd>
     ensures command { Reads result (filter_line (words_of words.now)) }
-    ensures flags { IfOk result (λ command. commands_flags command ≡ true) }
+    ensures flags { IfOk result (λ command. rule_fits command ≡ true) }
 {
     let Some((verb, behind)) = next_word(words) else {
         return Err(LineEnd::BadLine { rule: 3 });

@@ -76,7 +76,7 @@ progress_of-here traced processor queue before line frame phase count =
     let hs = hand_ins_of processor phase.hand_ins in
     let needs = needs_of processor phase.hand_ins in
     let more : at_hand_in processor queue (with_packet line processor frame phase) ≡ at_hand_in processor queue phase ++ carried_over (after phase.published) queue.interface frame ∷ [] =
-        rw (hand_ins_of-here processor phase.hand_ins h here, map-append (λ (x : HandIn). x.need) hs (h ∷ []), carried-append phase.published queue.interface hs needs h n (length-map hs (λ x. x.need)), take-length phase.published, count) refl in
+    rw (hand_ins_of-here processor phase.hand_ins h here, map-append (λ (x : HandIn). x.need) hs (h ∷ []), carried-append phase.published queue.interface hs needs h n (length-map hs (λ x. x.need)), take-length phase.published, count) refl in
     let first : 0 + length needs ≡ length needs = omega arith in
     rw (more, needs_of-here processor phase.hand_ins h here, packets_trace-append processor 0 (at_hand_in processor queue phase) (carried_over (after phase.published) queue.interface frame), length-at_hand_in processor queue phase, first, traced-append traced, count) refl
 

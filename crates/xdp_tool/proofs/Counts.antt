@@ -55,19 +55,21 @@ pub legal-needs_from : (first low : ℕ) (queues : List Queue) (lasts : List ℕ
 legal-needs_from first low [] [] phase same within legal = tt
 legal-needs_from first low [] (l ∷ lasts) phase same within legal = absurd (omega (arith, same))
 legal-needs_from first low (q ∷ queues) [] phase same within legal = absurd (omega (arith, same))
-legal-needs_from first low (q ∷ queues) (l ∷ lasts) phase same within legal =
-    (legal-lower low l (length phase.published) (needs_of first phase.hand_ins) (needs_of first phase.hand_ins) within.0 (legal first),
-    legal-needs_from (first + 1) low queues lasts phase (omega (arith, same)) within.1 legal)
+legal-needs_from first low (q ∷ queues) (l ∷ lasts) phase same within legal = (
+  legal-lower low l (length phase.published) (needs_of first phase.hand_ins) (needs_of first phase.hand_ins) within.0 (legal first),
+  legal-needs_from (first + 1) low queues lasts phase (omega (arith, same)) within.1 legal,
+)
 
 -- at the phase's end the last counts are within its publications
 pub lasts-within : (first low : ℕ) (queues : List Queue) (lasts : List ℕ) (phase : Phase) → low ≤ length phase.published → length lasts ≡ length queues → AllWithin low lasts → ((processor : ℕ) → AreLegalCounts low (length phase.published) (needs_of processor phase.hand_ins) (needs_of processor phase.hand_ins)) → AllWithin (length phase.published) (lasts_of lasts (needs_from first queues phase))
 lasts-within first low [] [] phase grown same within legal = tt
 lasts-within first low [] (l ∷ lasts) phase grown same within legal = absurd (omega (arith, same))
 lasts-within first low (q ∷ queues) [] phase grown same within legal = tt
-lasts-within first low (q ∷ queues) (l ∷ lasts) phase grown same within legal =
-    (last-within l (length phase.published) (needs_of first phase.hand_ins) (needs_of first phase.hand_ins) (omega (arith, within.0))
-        (legal-lower low l (length phase.published) (needs_of first phase.hand_ins) (needs_of first phase.hand_ins) within.0 (legal first)),
-    lasts-within (first + 1) low queues lasts phase grown (omega (arith, same)) within.1 legal)
+lasts-within first low (q ∷ queues) (l ∷ lasts) phase grown same within legal = (
+  last-within l (length phase.published) (needs_of first phase.hand_ins) (needs_of first phase.hand_ins) (omega (arith, within.0))
+      (legal-lower low l (length phase.published) (needs_of first phase.hand_ins) (needs_of first phase.hand_ins) within.0 (legal first)),
+  lasts-within (first + 1) low queues lasts phase grown (omega (arith, same)) within.1 legal,
+)
 
 pub length-lasts : (first : ℕ) (queues : List Queue) (lasts : List ℕ) (phase : Phase) → length lasts ≡ length queues → length (lasts_of lasts (needs_from first queues phase)) ≡ length queues
 length-lasts first [] [] phase same = refl

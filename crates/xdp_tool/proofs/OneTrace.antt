@@ -26,9 +26,10 @@ set_named-other f name v other apart = by_case (pointwise nat_eq other name) ref
 beside-other : (t t' : Told) (n : ℕ) (name other : List ℕ) → t.name_of n ≡ name → t'.name_of n ≡ name → told_beside t' n ≡ told_beside t n → is_other (Some name) other ≡ true → (t'.content other ≡ t.content other) × (t'.flushed other ≡ t.flushed other)
 beside-other t t' n name other is is' same apart =
     let here : is_other (Some (t.name_of n)) other ≡ true = rw is apart in
-    let here' : is_other (Some (t'.name_of n)) other ≡ true = rw is' apart in
-    (sym (set_named-other t'.content (t'.name_of n) [] other here') ∙ (ap (λ (u : Told). u.content other) same ∙ set_named-other t.content (t.name_of n) [] other here),
-    sym (set_named-other t'.flushed (t'.name_of n) 0 other here') ∙ (ap (λ (u : Told). u.flushed other) same ∙ set_named-other t.flushed (t.name_of n) 0 other here))
+    let here' : is_other (Some (t'.name_of n)) other ≡ true = rw is' apart in (
+      sym (set_named-other t'.content (t'.name_of n) [] other here') ∙ (ap (λ (u : Told). u.content other) same ∙ set_named-other t.content (t.name_of n) [] other here),
+      sym (set_named-other t'.flushed (t'.name_of n) 0 other here') ∙ (ap (λ (u : Told). u.flushed other) same ∙ set_named-other t.flushed (t.name_of n) 0 other here),
+    )
 
 pub touches_made : (t t₁ t₂ t₃ : Told) (name : List ℕ) (n n₂ : ℕ) → t₁ ≡ after_make t name (Ok n) → n₂ ≡ n → told_beside t₂ n₂ ≡ told_beside t₁ n → t₃ ≡ t₂ → Touches t t₃ [] (Some name)
 touches_made t t₁ t₂ t₃ name n n₂ made file same₂ last =
@@ -38,9 +39,9 @@ touches_made t t₁ t₂ t₃ name n n₂ made file same₂ last =
     record {
       asked = (0, ap (λ (u : Told). u.asked) last ∙ (ap (λ (u : Told). u.asked) same ∙ (ap (λ (u : Told). u.asked) made ∙ sym (append-nil t.asked))));
       content = λ other apart. ap (λ (u : Told). u.content other) last ∙ ((beside-other t₁ t₂ n name other own own' same apart).0
-      ∙ (ap (λ (u : Told). u.content other) made ∙ set_named-other t.content name [] other apart));
+          ∙ (ap (λ (u : Told). u.content other) made ∙ set_named-other t.content name [] other apart));
       flushed = λ other apart. ap (λ (u : Told). u.flushed other) last ∙ ((beside-other t₁ t₂ n name other own own' same apart).1
-      ∙ (ap (λ (u : Told). u.flushed other) made ∙ set_named-other t.flushed name 0 other apart));
+          ∙ (ap (λ (u : Told). u.flushed other) made ∙ set_named-other t.flushed name 0 other apart));
     }
 
 -- what a setting tells

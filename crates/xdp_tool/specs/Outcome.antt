@@ -1,6 +1,7 @@
 -- What a run comes to: a function of its words, the contents of its files, how far reading went, and its choices.
 use Rattle.std.specs.Prelude.{ℕ, nat_lt, List, [], length, Result, Ok, Err, if◌then◌else◌}
-use Rattle.script_text.specs.Script.{◌>>=◌, script_of}
+use Rattle.script_text.specs.Readings.{◌>>=◌}
+use Rattle.script_text.specs.Script.{script_of}
 use Rattle.script_text.specs.declared.script.Script.{Script}
 use Rattle.script_text.specs.declared.script.ScriptEnd.{ScriptEnd}
 use Rattle.script_text.specs.declared.script.ScriptEnd.TheVariants as end

@@ -1,6 +1,7 @@
 -- What is printed of a plan whose packets were carried with these counts.
 use Rattle.std.specs.Prelude.{ℕ, ◌+◌, List, [], ◌∷◌, ◌++◌, length, map, flat_map, Option, Some, None}
-use Rattle.script_text.specs.Texts.{outcome_text, end_text, processor_line, rules_text}
+use Rattle.script_text.specs.Table.{rules_text}
+use Rattle.script_text.specs.Texts.{outcome_text, end_text, processor_line}
 use Rattle.script_text.specs.declared.outcome.Outcome.{Outcome}
 use Rattle.script_text.specs.declared.outcome.Outcome.TheVariants as outcome
 use Rattle.xdp_state.specs.Book.{Book, after}

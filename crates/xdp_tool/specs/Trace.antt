@@ -1,7 +1,7 @@
 -- What stands in the trace of a plan whose packets were carried with these counts.
 use Rattle.std.specs.Prelude.{ℕ, ◌+◌, Bool, List, [], ◌∷◌, ◌++◌, codes, Option, Some, None, if◌then◌else◌}
 use Rattle.std.specs.Fmt.{decimal}
-use Rattle.script_text.specs.Texts.{trace_line}
+use Rattle.script_text.specs.Trace.{trace_line}
 use Rattle.xdp_tool.specs.Carried.{Carried, carried}
 use Rattle.xdp_tool.specs.Plan.{Phase, hand_ins_of}
 use Rattle.xdp_tool.specs.Queues.{Queue}

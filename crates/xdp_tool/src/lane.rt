@@ -39,7 +39,11 @@ impl<'a> Lane<'a> {
         ensures { IfOk result (λ lane. Shows lane
             (idle traced (record { interface = interface; name = name.now; queue = queue }))) }
     {
-        let trace = if traced { Some(Bytes::new(alloc)) } else { None };
+        let trace = if traced {
+            Some(Bytes::new(alloc))
+        } else {
+            None
+        };
         Ok(Lane {
             interface,
             name,

@@ -1,5 +1,6 @@
 ghost use Rattle.std.specs.Prelude.{◌≡◌, ◌+◌, ◌<◌, ◌≤◌, true, List, [], ◌++◌, length, map, flat_map, IfOk, OnOk};
-ghost use Rattle.script_text.specs.Handed.{has_frame, has_flags, has_frame_size};
+ghost use Rattle.script_text.specs.Frames.{has_frame_size};
+ghost use Rattle.script_text.specs.Handed.{has_frame, has_flags};
 ghost use Rattle.xdp_state.specs.Sums.{tally_of};
 ghost use Rattle.xdp_tool.specs.Lanes.{Progress, ShowAll, idle, advance_from, finished};
 ghost use Rattle.xdp_tool.specs.Queues.{Queue, queues_on, queues_of};
@@ -8,7 +9,9 @@ use crate::lane::Lane;
 use crate::report::{closing_text, lanes_text, phase_trace};
 use script_text::{Line, Outcome, What, outcome_text, rules_text};
 use std::alloc::Global;
-use xdp_state::{Change, Command, Interface, InterfaceList, Judgement, NeedsList, Reason, State, Tally, judge};
+use xdp_state::{
+    Change, Command, Interface, InterfaceList, Judgement, NeedsList, Reason, State, Tally, judge,
+};
 use xio::{Bytes, OutOfMemory};
 
 /// A walk over the lines of a script: the publications so far, what the processors carried, and what is to be printed of
@@ -44,7 +47,11 @@ impl<'a> Walk<'a> {
     ghost use Rattle.xdp_tool.specs.Walked.{Past, Stands, no_past, past_after};
 
     /// Before the first line.
-    pub fn new(alloc: Global, interfaces: &'a InterfaceList, traced: bool) -> Result<Self, OutOfMemory>
+    pub fn new(
+        alloc: Global,
+        interfaces: &'a InterfaceList,
+        traced: bool,
+    ) -> Result<Self, OutOfMemory>
         ensures start { IfOk result (λ walk. Stands walk (no_past interfaces.now) (opened [])) }
         ensures same { IfOk result (λ walk. walk.interfaces.now ≡ interfaces.now) }
         ensures traced { IfOk result (λ walk. walk.traced ≡ traced) }

@@ -40,11 +40,7 @@ fn script_alone(script: &str) -> Result<Named<'_>, Ending>
     })
 }
 
-fn traced_script<'a>(
-    option: &str,
-    trace: &'a str,
-    script: &'a str,
-) -> Result<Named<'a>, Ending>
+fn traced_script<'a>(option: &str, trace: &'a str, script: &'a str) -> Result<Named<'a>, Ending>
     ensures names { AreNames result (traced_script option.now trace.now script.now) }
     ensures usage { IfErr result (λ ending. ending ≡ Ending.Usage) }
 {

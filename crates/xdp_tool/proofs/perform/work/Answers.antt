@@ -34,7 +34,7 @@ returns-in_err-end_phase-in-Barrier-clause-legal g c =
     let lines = ap (drop c.loop-line.line-index) c.as_slice-line-items.ensures in
     rw (plan-barrier script.interfaces (plan script) inv.done inv.phase script.lines c.loop-line.line-index c.line-item.result (omega (arith, c.loop-line-test.true, ap length c.as_slice-line-items.ensures)) (rw c.as_slice-line-items.ensures at c.line-item.is) c.in-Barrier.is inv.plan_is)
     (closed-legal script.interfaces inv.done inv.past c.loop-line.choices c.end_phase.new.choices inv.phase (Some c.line-item.result.line) _ (Err c.in_err-end_phase-in-Barrier.field-0.0) inv.ran (steps-of c.loop-line.walk inv.past inv.phase inv.stands)
-        (rw inv.same at (c.in_err-end_phase-in-Barrier.ensures.choices inv.past inv.phase inv.stands)))
+    (rw inv.same at (c.in_err-end_phase-in-Barrier.ensures.choices inv.past inv.phase inv.stands)))
 
 pub returns-in_err-end_phase-in-Barrier-clause-out : goal.returns-in_err-end_phase-in-Barrier-clause-out
 returns-in_err-end_phase-in-Barrier-clause-out g c = λ tells.
@@ -43,8 +43,8 @@ returns-in_err-end_phase-in-Barrier-clause-out g c = λ tells.
     rw (plan-barrier script.interfaces (plan script) inv.done inv.phase script.lines c.loop-line.line-index c.line-item.result (omega (arith, c.loop-line-test.true, ap length c.as_slice-line-items.ensures)) (rw c.as_slice-line-items.ensures at c.line-item.is) c.in-Barrier.is inv.plan_is)
     (puts-front c.from_residual.result _ _ _ c.from_residual.ensures.0
     (closed-out script.interfaces inv.done inv.past c.loop-line.choices c.end_phase.new.choices inv.phase (Some c.line-item.result.line) _ (Err c.in_err-end_phase-in-Barrier.field-0.0) _ _ _ inv.ran
-        (rw inv.same at (c.in_err-end_phase-in-Barrier.ensures.choices inv.past inv.phase inv.stands)) (inv.out tells)
-        (rw inv.same at (c.in_err-end_phase-in-Barrier.ensures.out tells inv.past inv.phase inv.stands))))
+    (rw inv.same at (c.in_err-end_phase-in-Barrier.ensures.choices inv.past inv.phase inv.stands)) (inv.out tells)
+    (rw inv.same at (c.in_err-end_phase-in-Barrier.ensures.out tells inv.past inv.phase inv.stands))))
 
 pub returns-in_err-end_phase-in-Barrier-clause-trace : goal.returns-in_err-end_phase-in-Barrier-clause-trace
 returns-in_err-end_phase-in-Barrier-clause-trace g c = λ tells.
@@ -53,8 +53,8 @@ returns-in_err-end_phase-in-Barrier-clause-trace g c = λ tells.
     rw (plan-barrier script.interfaces (plan script) inv.done inv.phase script.lines c.loop-line.line-index c.line-item.result (omega (arith, c.loop-line-test.true, ap length c.as_slice-line-items.ensures)) (rw c.as_slice-line-items.ensures at c.line-item.is) c.in-Barrier.is inv.plan_is)
     (puts-front c.from_residual.result _ _ _ c.from_residual.ensures.0
     (closed-trace c.args.traced script.interfaces inv.done inv.past c.loop-line.choices c.end_phase.new.choices inv.phase (Some c.line-item.result.line) _ (Err c.in_err-end_phase-in-Barrier.field-0.0) _ _ _ inv.ran
-        (rw inv.same at (c.in_err-end_phase-in-Barrier.ensures.choices inv.past inv.phase inv.stands)) (inv.trace tells)
-        (rw (inv.same, inv.traced) at (c.in_err-end_phase-in-Barrier.ensures.trace tells inv.past inv.phase inv.stands))))
+    (rw inv.same at (c.in_err-end_phase-in-Barrier.ensures.choices inv.past inv.phase inv.stands)) (inv.trace tells)
+    (rw (inv.same, inv.traced) at (c.in_err-end_phase-in-Barrier.ensures.trace tells inv.past inv.phase inv.stands))))
 
 pub returns-in_err-do_line-in_default : goal.returns-in_err-do_line-in_default
 returns-in_err-do_line-in_default g c =
@@ -132,7 +132,7 @@ returns-in_err-end_phase-clause-legal g c =
     let script = c.args.script.now in
     rw (plan-last script.interfaces (plan script) inv.done inv.phase script.lines c.loop-line.line-index (omega (arith, c.loop-line-test.false, ap length c.as_slice-line-items.ensures)) inv.unclosed inv.plan_is)
     (closed-legal script.interfaces inv.done inv.past c.loop-line.choices c.end_phase-2.new.choices inv.phase None [] (Err c.in_err-end_phase.field-0.0) inv.ran (steps-of c.loop-line.walk inv.past inv.phase inv.stands)
-        (rw inv.same at (c.in_err-end_phase.ensures.choices inv.past inv.phase inv.stands)))
+    (rw inv.same at (c.in_err-end_phase.ensures.choices inv.past inv.phase inv.stands)))
 
 pub returns-in_err-end_phase-clause-out : goal.returns-in_err-end_phase-clause-out
 returns-in_err-end_phase-clause-out g c = λ tells.
@@ -141,8 +141,8 @@ returns-in_err-end_phase-clause-out g c = λ tells.
     rw (plan-last script.interfaces (plan script) inv.done inv.phase script.lines c.loop-line.line-index (omega (arith, c.loop-line-test.false, ap length c.as_slice-line-items.ensures)) inv.unclosed inv.plan_is)
     (puts-front c.from_residual-in_err-end_phase.result _ _ _ c.from_residual-in_err-end_phase.ensures.0
     (closed-out script.interfaces inv.done inv.past c.loop-line.choices c.end_phase-2.new.choices inv.phase None [] (Err c.in_err-end_phase.field-0.0) _ _ _ inv.ran
-        (rw inv.same at (c.in_err-end_phase.ensures.choices inv.past inv.phase inv.stands)) (inv.out tells)
-        (rw inv.same at (c.in_err-end_phase.ensures.out tells inv.past inv.phase inv.stands))))
+    (rw inv.same at (c.in_err-end_phase.ensures.choices inv.past inv.phase inv.stands)) (inv.out tells)
+    (rw inv.same at (c.in_err-end_phase.ensures.out tells inv.past inv.phase inv.stands))))
 
 pub returns-in_err-end_phase-clause-trace : goal.returns-in_err-end_phase-clause-trace
 returns-in_err-end_phase-clause-trace g c = λ tells.
@@ -151,8 +151,8 @@ returns-in_err-end_phase-clause-trace g c = λ tells.
     rw (plan-last script.interfaces (plan script) inv.done inv.phase script.lines c.loop-line.line-index (omega (arith, c.loop-line-test.false, ap length c.as_slice-line-items.ensures)) inv.unclosed inv.plan_is)
     (puts-front c.from_residual-in_err-end_phase.result _ _ _ c.from_residual-in_err-end_phase.ensures.0
     (closed-trace c.args.traced script.interfaces inv.done inv.past c.loop-line.choices c.end_phase-2.new.choices inv.phase None [] (Err c.in_err-end_phase.field-0.0) _ _ _ inv.ran
-        (rw inv.same at (c.in_err-end_phase.ensures.choices inv.past inv.phase inv.stands)) (inv.trace tells)
-        (rw (inv.same, inv.traced) at (c.in_err-end_phase.ensures.trace tells inv.past inv.phase inv.stands))))
+    (rw inv.same at (c.in_err-end_phase.ensures.choices inv.past inv.phase inv.stands)) (inv.trace tells)
+    (rw (inv.same, inv.traced) at (c.in_err-end_phase.ensures.trace tells inv.past inv.phase inv.stands))))
 
 pub returns-clause-legal : goal.returns-clause-legal
 returns-clause-legal g c =
@@ -160,7 +160,7 @@ returns-clause-legal g c =
     let script = c.args.script.now in
     rw (plan-last script.interfaces (plan script) inv.done inv.phase script.lines c.loop-line.line-index (omega (arith, c.loop-line-test.false, ap length c.as_slice-line-items.ensures)) inv.unclosed inv.plan_is)
     (closed-legal script.interfaces inv.done inv.past c.loop-line.choices c.end_phase-2.new.choices inv.phase None [] (Ok tt) inv.ran (steps-of c.loop-line.walk inv.past inv.phase inv.stands)
-        (rw inv.same at (c.in_ok-end_phase.ensures.choices inv.past inv.phase inv.stands)))
+    (rw inv.same at (c.in_ok-end_phase.ensures.choices inv.past inv.phase inv.stands)))
 
 pub returns-clause-out : goal.returns-clause-out
 returns-clause-out g c = λ tells.
@@ -168,8 +168,8 @@ returns-clause-out g c = λ tells.
     let script = c.args.script.now in
     rw (plan-last script.interfaces (plan script) inv.done inv.phase script.lines c.loop-line.line-index (omega (arith, c.loop-line-test.false, ap length c.as_slice-line-items.ensures)) inv.unclosed inv.plan_is)
     (closed-out script.interfaces inv.done inv.past c.loop-line.choices c.end_phase-2.new.choices inv.phase None [] (Ok tt) _ _ _ inv.ran
-        (rw inv.same at (c.in_ok-end_phase.ensures.choices inv.past inv.phase inv.stands)) (inv.out tells)
-        (rw inv.same at (c.in_ok-end_phase.ensures.out tells inv.past inv.phase inv.stands)))
+    (rw inv.same at (c.in_ok-end_phase.ensures.choices inv.past inv.phase inv.stands)) (inv.out tells)
+    (rw inv.same at (c.in_ok-end_phase.ensures.out tells inv.past inv.phase inv.stands)))
 
 pub returns-clause-trace : goal.returns-clause-trace
 returns-clause-trace g c = λ tells.
@@ -177,5 +177,5 @@ returns-clause-trace g c = λ tells.
     let script = c.args.script.now in
     rw (plan-last script.interfaces (plan script) inv.done inv.phase script.lines c.loop-line.line-index (omega (arith, c.loop-line-test.false, ap length c.as_slice-line-items.ensures)) inv.unclosed inv.plan_is)
     (closed-trace c.args.traced script.interfaces inv.done inv.past c.loop-line.choices c.end_phase-2.new.choices inv.phase None [] (Ok tt) _ _ _ inv.ran
-        (rw inv.same at (c.in_ok-end_phase.ensures.choices inv.past inv.phase inv.stands)) (inv.trace tells)
-        (rw (inv.same, inv.traced) at (c.in_ok-end_phase.ensures.trace tells inv.past inv.phase inv.stands)))
+    (rw inv.same at (c.in_ok-end_phase.ensures.choices inv.past inv.phase inv.stands)) (inv.trace tells)
+    (rw (inv.same, inv.traced) at (c.in_ok-end_phase.ensures.trace tells inv.past inv.phase inv.stands)))

@@ -15,7 +15,7 @@ loop-place-preserved c =
       lanes = λ progress all. show-finished lanes progress place lane c.finish.new.self below c.index_mut.ensures.value c.in_ok-finish.ensures.lane (c.loop-place.invariant.lanes progress all);
       counts = λ progress all. c.in_ok-push.ensures.ok
           ∙ (rw (c.in_ok-finish.ensures.counts, c.loop-place.invariant.counts progress all, add-one)
-              (sym (counts-finished lanes progress place lane below c.index_mut.ensures.value (c.loop-place.invariant.lanes progress all))));
+          (sym (counts-finished lanes progress place lane below c.index_mut.ensures.value (c.loop-place.invariant.lanes progress all))));
     }
 
 pub returns-clause-lanes : goal.returns-clause-lanes

@@ -30,7 +30,7 @@ returns-clause-closed c = λ past phase stands.
     let progress = progress_from walk.traced 0 queues past.counted phase in
     let now = (past_after walk.interfaces.now past phase).counted in
     let lanes : ShowAll c.finish_all.new.lanes.items (progress_from walk.traced 0 queues now (opened phase.published)) =
-        rw (finished-opened walk.traced 0 queues past.counted phase) at (c.in_ok-counts.ensures.lanes progress stands.lanes) in
+    rw (finished-opened walk.traced 0 queues past.counted phase) at (c.in_ok-counts.ensures.lanes progress stands.lanes) in
     record {
       counts = c.in_ok-counts.ensures.counts progress stands.lanes ∙ counts-needs_from walk.traced 0 queues past.counted phase stands.processors;
       out = three-pieces _ _ _ _ _ _ _ _ _ c.replace-out.ensures.value c.in_ok-append.ensures.ok c.in_ok-append-2.ensures.ok
