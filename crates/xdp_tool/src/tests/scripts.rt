@@ -2,6 +2,7 @@ use super::{STEADY, run};
 use std::test::Fail;
 
 /// A script, and the status, out and trace of its run.
+#[derive(Clone, Copy)]
 struct Script {
     text: &'static str,
     status: u8,
