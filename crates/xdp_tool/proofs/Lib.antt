@@ -8,3 +8,4 @@ pub mod Running
 pub mod Closing
 pub mod Working
 pub mod OneTrace
+pub mod Ends

@@ -55,6 +55,7 @@ pub fn perform<O: Sink, T: Sink>(
     ensures trace_flushed { IsTrue T.tells → OnOk result (T.flushed trace.new ≡ length (T.held trace.new)) }
     ensures fault { result ≡ Err Stop.Fault
         → Rose (O.faults out.old) (O.faults out.new) ⊎ Rose (T.faults trace.old) (T.faults trace.new) }
+    ensures out_later { O.faults out.old ≤ O.faults out.new }
     ensures same_out { O.setting out.new ≡ O.setting out.old }
     ensures same_trace { T.setting trace.new ≡ T.setting trace.old }
 {

@@ -61,6 +61,8 @@ pub fn run_tool<F: Files, O: Sink, E: Sink>(
     ensures whole { IsTrue F.tells → IsTrue O.tells → is_whole result.status ≡ true → O.held out.new
         ≡ O.held out.old ++ out_of (prepared (words_of words.now) (F.told files.old).content) Whole result.choices }
     ensures flushed { IsTrue O.tells → is_end result.status ≡ true → O.flushed out.new ≡ length (O.held out.new) }
+    ensures settled { IsTrue O.tells → is_decided result.status ≡ true
+        → (O.flushed out.new ≡ length (O.held out.new)) ⊎ Rose (O.faults out.old) (O.faults out.new) }
     ensures traced { IsTrue F.tells → is_end result.status ≡ true → IfSome (trace_name (names_in (words_of words.now)))
         (IsTraced (F.told files.new) (trace_of (prepared (words_of words.now) (F.told files.old).content) Whole result.choices)) }
     ensures limit { IsTrue F.tells → IsTrue O.tells → result.status ≡ 5
@@ -84,11 +86,29 @@ pub fn run_tool<F: Files, O: Sink, E: Sink>(
 {
     let mut choices = Choices::new(alloc);
     let ending = run(alloc, words, files, out, &mut choices);
+    flush_early(out, ending);
     let ending = tell(alloc, err, ending);
     Ended {
         status: ending.status(),
         line: ending.line(),
         choices,
+    }
+}
+
+/// Flushes out where the run ended before the first line. How it ends stays the same where the flush fails.
+fn flush_early<O: Sink>(out: &mut O, ending: Ending)
+    ensures same { IsTrue O.tells → O.held out.new ≡ O.held out.old }
+    ensures flushed { IsTrue O.tells → is_decided (status_of ending) ≡ true → is_end (status_of ending) ≡ false
+        → (O.flushed out.new ≡ length (O.held out.new)) ⊎ Rose (O.faults out.old) (O.faults out.new) }
+    ensures kept { IsTrue O.tells → is_end (status_of ending) ≡ true → O.flushed out.new ≡ O.flushed out.old }
+    ensures later { O.faults out.old ≤ O.faults out.new }
+    ensures same_setting { O.setting out.new ≡ O.setting out.old }
+{
+    if matches!(
+        ending,
+        Ending::Usage | Ending::BadScript { .. } | Ending::Limit(_)
+    ) {
+        let _ = out.flush();
     }
 }
 
@@ -122,6 +142,7 @@ fn run<F: Files, O: Sink>(
     ensures touched { IsTrue F.tells → Touches (F.told files.old) (F.told files.new)
         (asked_names (names_in (words_of words.now))) (made_name (names_in (words_of words.now)) (status_of result)) }
     ensures same_handles { F.handles files.new ≡ F.handles files.old }
+    ensures out_later { O.faults out.old ≤ O.faults out.new }
     ensures same_out { O.setting out.new ≡ O.setting out.old }
 {
     let named = match names_in(words) {
@@ -166,6 +187,7 @@ fn work<F: Files, O: Sink>(
     ensures fault { result ≡ Err Stop.Fault
         → Rose (O.faults out.old) (O.faults out.new) ⊎ Rose (F.write_faults files.old) (F.write_faults files.new) }
     ensures same_read_faults { F.read_faults files.new ≡ F.read_faults files.old }
+    ensures out_later { O.faults out.old ≤ O.faults out.new }
     ensures same_out { O.setting out.new ≡ O.setting out.old }
 {
     match trace {

@@ -47,6 +47,7 @@ pub fn perform_into<F: Files, O: Sink>(
     ensures fault { result ≡ Err Stop.Fault
         → Rose (O.faults out.old) (O.faults out.new) ⊎ Rose (F.write_faults files.old) (F.write_faults files.new) }
     ensures same_read_faults { F.read_faults files.new ≡ F.read_faults files.old }
+    ensures out_later { O.faults out.old ≤ O.faults out.new }
     ensures same_out { O.setting out.new ≡ O.setting out.old }
 {
     let file = match files.make_file(name) {
