@@ -1,5 +1,5 @@
 -- What holds of a script that is read.
-use Rattle.std.specs.Prelude.{◌≡◌, ℕ, ◌≤◌, ◌&&◌, Bool, true, nat_lt, nat_le, List, length}
+use Rattle.std.specs.Prelude.{◌≡◌, ℕ, ◌≤◌, ◌&&◌, Bool, true, nat_lt, nat_le, length}
 use Rattle.std.specs.List.{list_all}
 use Rattle.filter_rules.specs.Rule.{all_flags}
 use Rattle.xdp_state.specs.declared.command.Command.{Command}
