@@ -174,7 +174,7 @@ impl State {
             } => interface < INTERFACES && has_place(&self.members, interface, mode),
             Change::Detach { interface, .. } => interface < INTERFACES,
             Change::SetRule { key, flags } => {
-                has_own_flags(key, flags) && (self.rules.contains(key) || self.rules.len() < ROWS)
+                has_own_flags(key, flags) && (self.rules.len() < ROWS || self.rules.contains(key))
             }
             Change::ClearRule { key, flags } => has_own_flags(key, flags),
         }

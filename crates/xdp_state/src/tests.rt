@@ -1,5 +1,8 @@
 //! The answers to commands, and a filter's whole life.
 
+ghost use Rattle.std.specs.Prelude.{◌≡◌};
+ghost use Rattle.xdp_state.specs.Answer.{rule_fits};
+
 use crate::{
     Change, Command, Interface, InterfaceList, Judgement, Kind, Mode, Reason, State, judge,
 };
@@ -70,6 +73,23 @@ fn detach(interface: u32, number: u32, clear_rules: bool) -> Judgement {
     })
 }
 
+/// Whether a rule's flags are some flags of its kind.
+fn rule_fits(command: &Command) -> bool
+    ensures { result ≡ rule_fits command.now }
+{
+    match command {
+        Command::FilterRule { key, flags, .. } => *flags != 0 && *flags <= key.kind.all_flags(),
+        _ => true,
+    }
+}
+
+fn answer(state: &State, names: &InterfaceList, command: &Command) -> Option<Judgement> {
+    if !rule_fits(command) {
+        return None;
+    }
+    Some(judge(state, names, command))
+}
+
 #[test]
 fn answers_with_no_filter(rt: HostRuntime) -> Result<(), Fail> {
     let alloc = rt.alloc();
@@ -87,7 +107,7 @@ fn answers_with_no_filter(rt: HostRuntime) -> Result<(), Fail> {
         (Command::FilterStatus, Judgement::Shown),
     ];
     for (command, want) in &rows {
-        assert_eq!(rt; judge(&state, &names, command), *want);
+        assert_eq!(rt; answer(&state, &names, command), Some(*want));
     }
     Ok(())
 }
@@ -135,7 +155,7 @@ fn answers_with_two_filters(rt: HostRuntime) -> Result<(), Fail> {
         (rule(PORT, 3, true), clear(PORT, 3)),
     ];
     for (command, want) in &rows {
-        assert_eq!(rt; judge(&state, &names, command), *want);
+        assert_eq!(rt; answer(&state, &names, command), Some(*want));
     }
 
     state.absorb(&Change::Detach {
@@ -153,7 +173,7 @@ fn answers_with_two_filters(rt: HostRuntime) -> Result<(), Fail> {
         (rule(PORT, 3, false), refused(Reason::FeatureMissing)),
     ];
     for (command, want) in &rows {
-        assert_eq!(rt; judge(&state, &names, command), *want);
+        assert_eq!(rt; answer(&state, &names, command), Some(*want));
     }
     Ok(())
 }
@@ -172,17 +192,16 @@ fn refuses_a_rule_more(rt: HostRuntime) -> Result<(), Fail> {
         let key = port(value);
         state.absorb(&Change::SetRule { key, flags: 4 });
     }
-    let more = rule(port(u128::from(ROWS)), 4, false);
-    assert_eq!(rt;
-        judge(&state, &names, &more),
-        Judgement::Refused(Reason::RulesFull)
-    );
+    let full = Judgement::Refused(Reason::RulesFull);
     let key = port(7);
-    let change = Change::SetRule { key, flags: 8 };
-    assert_eq!(rt;
-        judge(&state, &names, &rule(key, 8, false)),
-        Judgement::Accepted(change)
-    );
+    let change = Judgement::Accepted(Change::SetRule { key, flags: 8 });
+    let rows = [
+        (rule(port(u128::from(ROWS)), 4, false), full),
+        (rule(key, 8, false), change),
+    ];
+    for (command, want) in &rows {
+        assert_eq!(rt; answer(&state, &names, command), Some(*want));
+    }
     Ok(())
 }
 
