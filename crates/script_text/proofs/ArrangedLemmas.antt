@@ -1,7 +1,6 @@
 -- The words behind a verb, one after the other.
-use Rattle.std.proofs.Common.{◌≡◌, ℕ, Bool, true, false, List, [], ◌∷◌, Result, Ok, Err, refl, sym, ◌∙◌, ap, arith}
-use Rattle.std.proofs.lemmas.Grind.{common_steps}
-use Rattle.script_text.specs.Options.{Arranged, arrangement, has_value, role_of, given_value, with_word, with_value, arranged_behind}
+use Rattle.std.proofs.Common.{◌≡◌, ℕ, false, List, [], ◌∷◌, Result, Ok, Err, refl, sym, ◌∙◌}
+use Rattle.script_text.specs.Options.{Arranged, arrangement, has_value, role_of, given_value, with_word, arranged_behind}
 use Rattle.script_text.specs.Readings.{◌>>=◌}
 use Rattle.script_text.specs.declared.options.Role.{Role}
 use Rattle.script_text.specs.declared.options.Role.TheVariants as role

@@ -1,8 +1,7 @@
 -- A script stays sound with one interface more, and with one line more.
-use Rattle.std.proofs.Common.{◌≡◌, ℕ, ◌+◌, ◌≤◌, Bool, true, ◌&&◌, List, [], ◌∷◌, ◌++◌, length, Option, Some, None, Result, Ok, Err, refl, sym, ◌∙◌, ap, arith, length-append}
+use Rattle.std.proofs.Common.{◌≡◌, ℕ, ◌+◌, ◌≤◌, Bool, true, List, [], ◌∷◌, ◌++◌, length, Option, Some, None, Err, refl, ap, arith, length-append}
 use Rattle.std.specs.List.{list_all}
 use Rattle.std.proofs.lemmas.Bool.Decides.{nat_tests}
-use Rattle.std.proofs.lemmas.Grind.{common_steps}
 use Rattle.std.proofs.lemmas.List.Sums.{sum_by-append}
 use Rattle.xdp_state.specs.declared.interface.Interface.{Interface}
 use Rattle.script_text.specs.Handed.{IsSound, has_frame, has_processor, has_flags, asks_frame, asks_processor, asks_flags}
@@ -10,7 +9,6 @@ use Rattle.script_text.specs.Interfaces.{queue_count, has_room}
 use Rattle.script_text.specs.Readings.{both, found}
 use Rattle.script_text.specs.declared.script.Script.{Script}
 use Rattle.script_text.specs.declared.what.Line.{Line}
-use Rattle.script_text.specs.declared.what.What.{What}
 
 pub list_all-push : {X : Type 0} (p : X → Bool) (xs : List X) (x : X) → list_all p xs ≡ true → p x ≡ true → list_all p (xs ++ x ∷ []) ≡ true
 list_all-push p [] x all this = rw this refl

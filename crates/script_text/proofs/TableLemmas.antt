@@ -1,5 +1,5 @@
 -- The table's lines, one after the other.
-use Rattle.std.proofs.Common.{◌≡◌, ℕ, suc, ◌+◌, ◌<◌, List, [], ◌∷◌, ◌++◌, length, drop, get_or, Some, None, refl, sym, ◌∙◌, ap, append_assoc, arith, drop-cons, add-one}
+use Rattle.std.proofs.Common.{◌≡◌, ℕ, suc, ◌+◌, List, ◌∷◌, ◌++◌, drop, get_or, Some, ◌∙◌, ap, append_assoc, arith, drop-cons}
 use Rattle.std.specs.Prelude.{find, slice_get, ◌==◌}
 use Rattle.std.proofs.lemmas.Option.{slice_get_within, get_or_from_slice_get}
 use Rattle.filter_rules.specs.declared.rule.RuleRow.{RuleRow}

@@ -1,5 +1,5 @@
 -- The lines of `xdp-filter`, by the words behind the first.
-use Rattle.std.specs.Prelude.{ℕ, ◌+◌, ◌*◌, List, [], ◌∷◌, Option, Some, None, Result, Ok, Err, if◌then◌else◌}
+use Rattle.std.specs.Prelude.{ℕ, ◌+◌, ◌*◌, List, [], ◌∷◌, Option, Some, None, Result, Ok, Err}
 use Rattle.std.specs.Option.{unwrap_or, option_map, option_or}
 use Rattle.filter_rules.specs.declared.policy.Policy.TheVariants.{Allow}
 use Rattle.filter_rules.specs.declared.rule.RuleKey.{RuleKey}
@@ -11,7 +11,7 @@ use Rattle.xdp_state.specs.declared.command.Command.TheVariants.{FilterLoad, Fil
 use Rattle.script_text.specs.Addresses.{ether_of, ip4_of, ip6_of}
 use Rattle.script_text.specs.Names.{is_name}
 use Rattle.script_text.specs.Numbers.{number_within}
-use Rattle.script_text.specs.Options.{Arranged, verb_of, arranged}
+use Rattle.script_text.specs.Options.{verb_of, arranged}
 use Rattle.script_text.specs.Readings.{◌>>=◌, both, found, keeps}
 use Rattle.script_text.specs.declared.options.Given.{Given}
 use Rattle.script_text.specs.declared.options.Verb.{Verb}

@@ -1,5 +1,5 @@
 -- The interfaces that a script declares, and the processors that serve their queues.
-use Rattle.std.specs.Prelude.{ℕ, ◌+◌, ◌&&◌, ◌||◌, Bool, not, nat_lt, nat_le, List, [], ◌∷◌, length, sum_by, Option, Some, None, Result, Ok, Err, if◌then◌else◌}
+use Rattle.std.specs.Prelude.{ℕ, ◌+◌, ◌&&◌, Bool, not, nat_lt, nat_le, List, [], ◌∷◌, length, sum_by, Option, Some, None, Result, Ok, if◌then◌else◌}
 use Rattle.std.specs.List.{list_any}
 use Rattle.std.specs.Option.{option_map}
 use Rattle.std.specs.Str.{bytes_eq}
@@ -8,7 +8,6 @@ use Rattle.script_text.specs.Frames.{frame_of}
 use Rattle.script_text.specs.Names.{is_name}
 use Rattle.script_text.specs.Numbers.{number_of, number_within}
 use Rattle.script_text.specs.Readings.{◌>>=◌, both, found, keeps}
-use Rattle.script_text.specs.Words.{is_option}
 use Rattle.script_text.specs.declared.what.What.{What}
 use Rattle.script_text.specs.declared.what.What.TheVariants as what
 

@@ -24,7 +24,6 @@ use Rattle.script_text.specs.Words.{words_of, is_comment, is_option, is_printabl
 use Rattle.script_text.specs.declared.script.Script.{Script}
 use Rattle.script_text.specs.declared.script.ScriptEnd.{ScriptEnd}
 use Rattle.script_text.specs.declared.script.ScriptEnd.TheVariants.{BadScript, TooManyLines, OutOfMemory}
-use Rattle.script_text.specs.declared.what.Line.{Line}
 use Rattle.script_text.specs.declared.what.What.{What}
 use Rattle.script_text.specs.declared.what.What.TheVariants as what
 

@@ -4,11 +4,8 @@ ghost use Rattle.script_text.specs.Options.{arrangement, with_word, arranged_beh
 ghost use Rattle.script_text.specs.Words.{words_of};
 
 use crate::options::{Given, Role, Verb, role_of};
-use crate::reading::Rule;
+use crate::rule::{BAD_FORM, Rule};
 use crate::words::next_word;
-
-/// Words are missing or too many, or an option is unknown, has no value or stands twice.
-const BAD_FORM: Rule = 3;
 
 /// The words behind a verb: what the options give, and the verb's own word.
 #[derive(Clone, Copy, Debug)]

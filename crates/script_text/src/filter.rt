@@ -13,7 +13,8 @@ use crate::ip6::ip6_of;
 use crate::name::is_name;
 use crate::numbers::number_within;
 use crate::options::{Given, Verb, verb_of};
-use crate::reading::{LineEnd, Rule, both, keeps};
+use crate::reading::{LineEnd, both, keeps};
+use crate::rule::{BAD_ADDRESS, BAD_FORM, BAD_NAME, BAD_NUMBER, Rule, UNKNOWN};
 use crate::text::bytes_of;
 use crate::word_lists::{Directions, Protocols};
 use crate::words::next_word;
@@ -43,7 +44,7 @@ fn load_of(alloc: Global, name: &[u8], given: Given) -> Result<Command, LineEnd>
     let features = or_else(given.features, ALL_FEATURES);
     let mode = or_else(given.mode, Mode::Native);
     let ((), (mode, (policy, features))) = both(
-        keeps(5, is_name(name)),
+        keeps(BAD_NAME, is_name(name)),
         both(mode, both(policy, features)),
     )?;
     Ok(Command::FilterLoad {
@@ -60,7 +61,7 @@ fn unload_of(alloc: Global, name: &[u8], given: Given) -> Result<Command, LineEn
     ensures command { Reads result (unload_of name.now given) }
     ensures flags { IfOk result (λ command. rule_fits command ≡ true) }
 {
-    keeps(5, is_name(name))?;
+    keeps(BAD_NAME, is_name(name))?;
     Ok(Command::FilterUnload {
         interface: bytes_of(alloc, name)?,
         keep: given.keep,
@@ -116,7 +117,7 @@ fn port_of(port: &[u8], given: Given) -> Result<Command, Rule>
     let directions = or_else(given.directions, Directions::Target);
     let protocols = or_else(given.protocols, Protocols::Both);
     let (port, (directions, protocols)) = both(
-        number_within(0, 65_535, port).ok_or(4),
+        number_within(0, 65_535, port).ok_or(BAD_NUMBER),
         both(directions, protocols),
     )?;
     Ok(Command::FilterRule {
@@ -136,7 +137,7 @@ fn address_rule(key: Option<RuleKey>, given: Given) -> Result<Command, Rule>
     ensures flags { IfOk result (λ command. rule_fits command ≡ true) }
 {
     let directions = or_else(given.directions, Directions::Target);
-    let (directions, key) = both(directions, key.ok_or(12))?;
+    let (directions, key) = both(directions, key.ok_or(BAD_ADDRESS))?;
     Ok(Command::FilterRule {
         key,
         flags: direction_flags(directions),
@@ -190,7 +191,7 @@ fn command_of(
         (Verb::Ip, Some(address)) => Ok(address_rule(ip_key(address), given)?),
         (Verb::Ether, Some(address)) => Ok(address_rule(ether_key(address), given)?),
         (Verb::Status, None) => Ok(Command::FilterStatus),
-        _ => Err(LineEnd::BadLine { rule: 3 }),
+        _ => Err(LineEnd::BadLine { rule: BAD_FORM }),
     }
 }
 
@@ -201,10 +202,10 @@ pub fn filter_line(alloc: Global, words: &[u8]) -> Result<Command, LineEnd>
     ensures flags { IfOk result (λ command. rule_fits command ≡ true) }
 {
     let Some((verb, behind)) = next_word(words) else {
-        return Err(LineEnd::BadLine { rule: 3 });
+        return Err(LineEnd::BadLine { rule: BAD_FORM });
     };
     let Some(verb) = verb_of(verb) else {
-        return Err(LineEnd::BadLine { rule: 2 });
+        return Err(LineEnd::BadLine { rule: UNKNOWN });
     };
     let words = arranged(verb, behind)?;
     command_of(alloc, verb, words.given, words.own)

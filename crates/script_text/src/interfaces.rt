@@ -3,7 +3,8 @@ ghost use Rattle.script_text.specs.Interfaces.{is_declared, queue_count, has_roo
 
 use crate::name::is_name;
 use crate::numbers::{number_of, number_within};
-use crate::reading::{Rule, both, keeps};
+use crate::reading::{both, keeps};
+use crate::rule::{BAD_NAME, BAD_NUMBER, LATE_INTERFACE, NO_QUEUE, NO_ROOM, Rule, SAME_NAME};
 use xdp_state::Interface;
 
 /// How many interfaces there may be, and how many queues in all.
@@ -51,13 +52,16 @@ pub fn interface_of(
     ensures first { IfOk result (λ _. first ≡ true) }
 {
     let (queues, _) = both(
-        number_within(1, MOST, queues).ok_or(4),
+        number_within(1, MOST, queues).ok_or(BAD_NUMBER),
         both(
-            keeps(5, is_name(name)),
-            both(keeps(6, first), keeps(7, !is_declared(interfaces, name))),
+            keeps(BAD_NAME, is_name(name)),
+            both(
+                keeps(LATE_INTERFACE, first),
+                keeps(SAME_NAME, !is_declared(interfaces, name)),
+            ),
         ),
     )?;
-    keeps(8, has_room(interfaces, queues))?;
+    keeps(NO_ROOM, has_room(interfaces, queues))?;
     Ok(queues)
 }
 
@@ -88,6 +92,9 @@ pub fn hand_in_of(interfaces: &[Interface], name: &[u8], queue: &[u8]) -> Result
     ensures rule { IfErr result (λ rule. rule ≤ 9) }
     ensures below { IfOk result (λ processor. processor < queue_count interfaces.now) }
 {
-    let (queue, ()) = both(number_of(queue).ok_or(4), keeps(5, is_name(name)))?;
-    processor_of(interfaces, name, queue).ok_or(9)
+    let (queue, ()) = both(
+        number_of(queue).ok_or(BAD_NUMBER),
+        keeps(BAD_NAME, is_name(name)),
+    )?;
+    processor_of(interfaces, name, queue).ok_or(NO_QUEUE)
 }

@@ -19,6 +19,7 @@ mod outcome;
 mod parts;
 mod processor;
 mod reading;
+mod rule;
 mod script;
 mod table;
 mod text;

@@ -9,15 +9,13 @@ use crate::filter::filter_line;
 use crate::frame::frame;
 use crate::interfaces::{hand_in_of, interface_of};
 use crate::reading::LineEnd;
+use crate::rule::{BAD_BYTE, BAD_FORM, BAD_FRAME, UNKNOWN};
 use crate::script::Script;
 use crate::text::bytes_of;
 use crate::what::{Line, What};
 use crate::words::{are_printable, is_comment, is_option, next_word};
 use std::alloc::Global;
 use xdp_state::Interface;
-
-/// Words are missing or too many, or there is an option.
-const BAD_FORM: LineEnd = LineEnd::BadLine { rule: 3 };
 
 /// Reads `NAME QUEUES`.
 #[tactic(auto, unfolding(crate::specs::Script::interface_line))]
@@ -28,13 +26,13 @@ fn interface_line(alloc: Global, mut script: Script, words: &[u8]) -> Result<Scr
     ensures lines { IfOk result (λ read. read.lines ≡ script.lines) }
 {
     let Some((name, behind)) = next_word(words) else {
-        return Err(BAD_FORM);
+        return Err(LineEnd::BadLine { rule: BAD_FORM });
     };
     let Some((queues, behind)) = next_word(behind) else {
-        return Err(BAD_FORM);
+        return Err(LineEnd::BadLine { rule: BAD_FORM });
     };
     if next_word(behind).is_some() || is_option(name) || is_option(queues) {
-        return Err(BAD_FORM);
+        return Err(LineEnd::BadLine { rule: BAD_FORM });
     }
     let first = script.lines.len() == 0;
     let queues = interface_of(script.interfaces.as_slice(), first, name, queues)?;
@@ -64,7 +62,7 @@ fn packet_of(
     };
     match frame(alloc, digits)? {
         Some(frame) => Ok(What::Packet { processor, frame }),
-        None => Err(LineEnd::BadLine { rule: 10 }),
+        None => Err(LineEnd::BadLine { rule: BAD_FRAME }),
     }
 }
 
@@ -78,16 +76,16 @@ fn packet_line(alloc: Global, interfaces: &[Interface], words: &[u8]) -> Result<
     ensures flags { IfOk result (λ what. asks_flags what ≡ true) }
 {
     let Some((name, behind)) = next_word(words) else {
-        return Err(BAD_FORM);
+        return Err(LineEnd::BadLine { rule: BAD_FORM });
     };
     let Some((queue, behind)) = next_word(behind) else {
-        return Err(BAD_FORM);
+        return Err(LineEnd::BadLine { rule: BAD_FORM });
     };
     let Some((digits, behind)) = next_word(behind) else {
-        return Err(BAD_FORM);
+        return Err(LineEnd::BadLine { rule: BAD_FORM });
     };
     if next_word(behind).is_some() || is_option(name) || is_option(queue) || is_option(digits) {
-        return Err(BAD_FORM);
+        return Err(LineEnd::BadLine { rule: BAD_FORM });
     }
     packet_of(alloc, interfaces, name, queue, digits)
 }
@@ -113,10 +111,10 @@ fn what_of(
         return packet_line(alloc, interfaces, words);
     }
     if command != b"barrier".as_slice() {
-        return Err(LineEnd::BadLine { rule: 2 });
+        return Err(LineEnd::BadLine { rule: UNKNOWN });
     }
     if next_word(words).is_some() {
-        return Err(BAD_FORM);
+        return Err(LineEnd::BadLine { rule: BAD_FORM });
     }
     Ok(What::Barrier)
 }
@@ -141,7 +139,7 @@ pub fn read_line(
         return Ok(script);
     }
     if !are_printable(line) {
-        return Err(LineEnd::BadLine { rule: 1 });
+        return Err(LineEnd::BadLine { rule: BAD_BYTE });
     }
     if command == b"interface".as_slice() {
         return interface_line(alloc, script, words);

@@ -1,7 +1,7 @@
 ghost use Rattle.std.specs.Prelude.{◌≡◌};
 ghost use Rattle.script_text.specs.Options.{verb_of, is_either, load_option, unload_option, address_option, port_option, option_of, role_of, none_given, given_value, given_switch};
 
-use crate::reading::Rule;
+use crate::rule::{BAD_CHOICE, BAD_FORM, Rule};
 use crate::word_lists::{
     Directions, Protocols, directions_of, features_of, mode_of, policy_of, protocols_of,
 };
@@ -57,12 +57,6 @@ pub struct Given {
     pub keep: bool,
     pub remove: bool,
 }
-
-/// An option that stands twice.
-const BAD_FORM: Rule = 3;
-
-/// A value that isn't among the option's.
-const BAD_VALUE: Rule = 11;
 
 pub fn verb_of(word: &[u8]) -> Option<Verb>
     ensures { result ≡ verb_of word.now }
@@ -186,19 +180,19 @@ impl Given {
         let mut given = self;
         match setting {
             Setting::Mode if self.mode.is_none() => {
-                given.mode = Some(mode_of(value).ok_or(BAD_VALUE));
+                given.mode = Some(mode_of(value).ok_or(BAD_CHOICE));
             }
             Setting::Policy if self.policy.is_none() => {
-                given.policy = Some(policy_of(value).ok_or(BAD_VALUE));
+                given.policy = Some(policy_of(value).ok_or(BAD_CHOICE));
             }
             Setting::Features if self.features.is_none() => {
-                given.features = Some(features_of(value).ok_or(BAD_VALUE));
+                given.features = Some(features_of(value).ok_or(BAD_CHOICE));
             }
             Setting::Directions if self.directions.is_none() => {
-                given.directions = Some(directions_of(value).ok_or(BAD_VALUE));
+                given.directions = Some(directions_of(value).ok_or(BAD_CHOICE));
             }
             Setting::Protocols if self.protocols.is_none() => {
-                given.protocols = Some(protocols_of(value).ok_or(BAD_VALUE));
+                given.protocols = Some(protocols_of(value).ok_or(BAD_CHOICE));
             }
             _ => return Err(BAD_FORM),
         }

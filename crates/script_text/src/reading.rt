@@ -3,10 +3,8 @@ ghost use Rattle.script_text.specs.Readings.{both, keeps};
 ghost use Rattle.script_text.specs.declared.reading.LineEnd.{LineEnd};
 ghost use Rattle.script_text.specs.declared.reading.LineEnd.TheVariants as end;
 
+use crate::rule::Rule;
 use xio::OutOfMemory;
-
-/// The number of a rule of the script.
-pub type Rule = u8;
 
 /// Why a line isn't read.
 #[derive(Clone, Copy, Debug, PartialEq, Eq)]

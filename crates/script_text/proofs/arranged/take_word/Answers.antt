@@ -1,6 +1,4 @@
-use Rattle.std.proofs.Common.{sym, ◌∙◌, ap, ◌∷◌, arith}
-use Rattle.std.specs.Option.{option_map}
-use Rattle.script_text.specs.Options.{arrangement, arranged_behind}
+use Rattle.std.proofs.Common.{sym, ◌∙◌}
 use Rattle.script_text.proofs.ArrangedLemmas.{arranged-read, arranged-pair}
 use Rattle.script_text.proofs.arranged.take_word.Goals as goal
 

@@ -1,7 +1,7 @@
 use Rattle.std.proofs.Common.{◌≡◌, ◌<◌, Some, length, take, sym, ◌∙◌, ap, arith}
-use Rattle.std.proofs.lemmas.List.{take_more_set, length-take, length-take-le, length-set}
+use Rattle.std.proofs.lemmas.List.{take_more_set, length-take, length-set}
 use Rattle.script_text.specs.Addresses.{octets_of}
-use Rattle.script_text.proofs.EthernetLemmas.{address_from, address_from-front, address_from-single, address_from-several, address_from-sixth}
+use Rattle.script_text.proofs.EthernetLemmas.{address_from-front, address_from-single, address_from-several, address_from-sixth}
 use Rattle.script_text.proofs.ethernet.ether_of.Goals as goal
 
 pub returns-in_err-octet : goal.returns-in_err-octet

@@ -1,6 +1,6 @@
 use Rattle.std.proofs.Common.{◌==◌, ◌∙◌, arith}
 use Rattle.std.proofs.lemmas.List.Splits.{length-slice_split}
-use Rattle.script_text.proofs.Ip6Lemmas.{group_room, group_fits, groups_full}
+use Rattle.script_text.proofs.Ip6Lemmas.{group_fits, groups_full}
 use Rattle.script_text.specs.Words.{parts_of}
 use Rattle.script_text.proofs.ip6.groups_of.Goals as goal
 

@@ -1,4 +1,4 @@
-use Rattle.std.proofs.Common.{◌≡◌, ◌-◌, ◌^◌, ◌<◌, ◌≤◌, length}
+use Rattle.std.proofs.Common.{◌≡◌, ◌-◌, ◌^◌, ◌<◌, ◌≤◌}
 use Rattle.script_text.specs.Addresses.{groups_behind, groups_of}
 use Rattle.script_text.specs.Words.{parts_of}
 use Rattle.script_text.proofs.ip6.groups_of.Given as goal

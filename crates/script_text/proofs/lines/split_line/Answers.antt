@@ -1,4 +1,4 @@
-use Rattle.std.proofs.Common.{sym, ◌∙◌, ap}
+use Rattle.std.proofs.Common.{sym}
 use Rattle.std.proofs.lemmas.List.{take_rest}
 use Rattle.script_text.proofs.LineLemmas.{lines_feed}
 use Rattle.script_text.proofs.lines.split_line.Goals as goal

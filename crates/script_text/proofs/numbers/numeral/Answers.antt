@@ -1,5 +1,4 @@
-use Rattle.std.proofs.Common.{◌≡◌, ◌+◌, ◌*◌, ◌<◌, ◌≤◌, ◌^◌, Some, None, true, false, take, length, get_or, sym, ◌∙◌, ap, refl, arith}
-use Rattle.std.specs.Char.{digit_value}
+use Rattle.std.proofs.Common.{◌<◌, Some, length, sym, ◌∙◌, ap, arith}
 use Rattle.std.proofs.lemmas.Int.Digits.{digits_value_more}
 use Rattle.script_text.proofs.NumberLemmas.{digit_room, digit_fits, are_digits-more, numeral-none, numeral-all}
 use Rattle.script_text.proofs.numbers.numeral.Goals as goal

@@ -1,4 +1,4 @@
-use Rattle.std.proofs.Common.{◌≡◌, ℕ, ◌^◌, ◌<◌, true, take}
+use Rattle.std.proofs.Common.{◌≡◌, ◌^◌, ◌<◌, true, take}
 use Rattle.std.specs.Str.Parse.{digits_value}
 use Rattle.script_text.specs.Numbers.{are_digits}
 use Rattle.script_text.proofs.numbers.numeral.Given as goal

@@ -1,6 +1,6 @@
-use Rattle.std.proofs.Common.{sym, length, arith}
-use Rattle.std.proofs.lemmas.List.{take_rest, length-take-le, length-drop}
-use Rattle.script_text.proofs.WordLemmas.{words_of_blanks, first_word, last_word}
+use Rattle.std.proofs.Common.{sym}
+use Rattle.std.proofs.lemmas.List.{take_rest}
+use Rattle.script_text.proofs.WordLemmas.{first_word, last_word}
 use Rattle.script_text.proofs.words.next_word.Goals as goal
 
 pub returns-in-Some-word_end-clause-words : goal.returns-in-Some-word_end-clause-words
