@@ -44,7 +44,7 @@ or_assoc None p q = refl
 or_assoc (Some x) p q = refl
 
 -- a place before or behind a range, or in it
-cases_range : (k place n : ℕ) → ((k < place) ⊎ (place + n ≤ k)) ⊎ ((place ≤ k) × (k < place + n))
+pub cases_range : (k place n : ℕ) → ((k < place) ⊎ (place + n ≤ k)) ⊎ ((place ≤ k) × (k < place + n))
 cases_range k place n = elim (cases_lt k place) [
   | inl below ↦ inl (inl below)
   | inr above ↦ elim (cases_lt k (place + n)) [ inl inside ↦ inr (above, inside) | inr past ↦ inl (inr past) ]
@@ -93,7 +93,7 @@ masked-number start mask bytes place n fits shown = number_at-bytes n (start + p
     let within : place + i < length bytes = omega arith in
     rw (here, masked-shown start mask bytes (place + i) (shown i below), get_within bytes (place + i) within) refl)
 
-index_here : (bytes others : List ℕ) (place k : ℕ) → place + length others ≤ length bytes → k < length others → slice_index (with_bytes bytes place others) (place + k) ≡ slice_index others k
+pub index_here : (bytes others : List ℕ) (place k : ℕ) → place + length others ≤ length bytes → k < length others → slice_index (with_bytes bytes place others) (place + k) ≡ slice_index others k
 unfolding with_bytes
 index_here bytes others place k fits below =
     let front : length (take place bytes) ≡ place = length-take-le place bytes (omega arith) in
@@ -101,7 +101,7 @@ index_here bytes others place k fits below =
     get_or-append_right (take place bytes) (others ++ drop (place + length others) bytes) place (place + k) 0 front (omega arith)
     ∙ rw off (get_or_append_left others (drop (place + length others) bytes) 0 k below)
 
-index_elsewhere : (bytes others : List ℕ) (place k : ℕ) → place + length others ≤ length bytes → (k < place) ⊎ (place + length others ≤ k) → k < length bytes → slice_index (with_bytes bytes place others) k ≡ slice_index bytes k
+pub index_elsewhere : (bytes others : List ℕ) (place k : ℕ) → place + length others ≤ length bytes → (k < place) ⊎ (place + length others ≤ k) → k < length bytes → slice_index (with_bytes bytes place others) k ≡ slice_index bytes k
 unfolding with_bytes
 index_elsewhere bytes others place k fits apart within =
     let front : length (take place bytes) ≡ place = length-take-le place bytes (omega arith) in

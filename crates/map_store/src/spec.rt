@@ -1,5 +1,5 @@
 ghost use Rattle.std.specs.Prelude.{◌≡◌};
-ghost use Rattle.map_store.specs.Spec.{spec_rule};
+ghost use Rattle.map_store.specs.Spec.{spec_rule, rounded};
 
 use lists::Bytes;
 
@@ -10,6 +10,23 @@ pub enum MapKind {
     Array,
     PercpuHash,
     PercpuArray,
+}
+
+impl MapKind {
+    ghost use Rattle.map_store.specs.Slots.{is_shared, is_array};
+
+    /// Programs read maps of this kind and don't change them.
+    pub(crate) fn is_shared(self) -> bool
+        ensures { result ≡ is_shared self }
+    {
+        matches!(self, MapKind::Hash | MapKind::Array)
+    }
+
+    pub(crate) fn is_array(self) -> bool
+        ensures { result ≡ is_array self }
+    {
+        matches!(self, MapKind::Array | MapKind::PercpuArray)
+    }
 }
 
 /// What a map is made of. Sizes are in bytes. `initial` is empty, or the value of the one entry of an `Array`.
@@ -40,4 +57,12 @@ pub fn spec_rule(spec: &MapSpec) -> Option<u8>
     } else {
         None
     }
+}
+
+/// A size rounded up to a multiple of 8.
+#[tactic(auto, unfolding(crate::specs::Spec::rounded))]
+pub(crate) fn rounded(size: u32) -> usize
+    ensures { result ≡ rounded size }
+{
+    (size as usize + 7) / 8 * 8
 }

@@ -31,3 +31,20 @@ fn names_the_first_broken_rule(rt: HostRuntime) -> Result<(), Fail> {
     }
     Ok(())
 }
+
+/// A spec without initial content.
+fn plain(
+    rt: &HostRuntime,
+    kind: MapKind,
+    key_size: u32,
+    value_size: u32,
+    max_entries: u32,
+) -> MapSpec {
+    MapSpec {
+        kind,
+        key_size,
+        value_size,
+        max_entries,
+        initial: Bytes::new(rt.alloc()),
+    }
+}
