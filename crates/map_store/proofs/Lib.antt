@@ -1,0 +1,11 @@
+pub mod Parts
+pub mod SlotLists
+pub mod SlotRooms
+pub mod Places
+pub mod Writes
+pub mod Indices
+pub mod Changes
+pub mod Start
+pub mod Regions
+pub mod Access
+pub mod Ends

@@ -1,0 +1,24 @@
+use Rattle.std.proofs.Common.{rules, ◌≡◌, ◌/◌, ◌%◌, ◌<◌, ◌≤◌, true, false, length, ap, sym, ◌∙◌, arith}
+use Rattle.std.proofs.lemmas.List.{get_or_read}
+use Rattle.map_store.specs.SlotsView.{is_taken}
+use Rattle.map_store.proofs.Access.{IsSpot, spot, can_read-taken, can_read-empty, can_read-past}
+use Rattle.map_store.proofs.slots.Slots.has_bytes.Goals as goal
+
+pub returns-then-place-len-clause-answer : goal.returns-then-place-len-clause-answer
+returns-then-place-len-clause-answer c =
+    let past : length c.self.inside.taken.items ≤ c.args.offset / c.self.inside.stride = rw (c.len.ensures, c.self.inside.taken.ok.0) at c.if-place-len.true in
+    rw (← c.self.view_is) (sym (can_read-past c.self.inside c.args.offset c.args.count c.self.invariant past))
+
+pub returns-then-not-index-clause-answer : goal.returns-then-not-index-clause-answer
+unfolding is_taken
+returns-then-not-index-clause-answer c =
+    let within : c.args.offset / c.self.inside.stride < length c.self.inside.taken.items = rw (c.len.ensures, c.self.inside.taken.ok.0) at c.if-place-len.false in
+    let read : is_taken c.self.inside.taken.items (c.args.offset / c.self.inside.stride) ≡ false = sym (get_or_read c.self.inside.taken.items (c.args.offset / c.self.inside.stride) c.index.result.now within c.index.ensures false) ∙ c.if-not-index.true in
+    rw (← c.self.view_is) (sym (can_read-empty c.self.inside c.args.offset _ _ c.args.count c.self.invariant (spot c.self.inside c.args.offset c.self.invariant within) read))
+
+pub returns-clause-answer : goal.returns-clause-answer
+unfolding is_taken
+returns-clause-answer c =
+    let within : c.args.offset / c.self.inside.stride < length c.self.inside.taken.items = rw (c.len.ensures, c.self.inside.taken.ok.0) at c.if-place-len.false in
+    let read : is_taken c.self.inside.taken.items (c.args.offset / c.self.inside.stride) ≡ true = sym (get_or_read c.self.inside.taken.items (c.args.offset / c.self.inside.stride) c.index.result.now within c.index.ensures false) ∙ c.if-not-index.false in
+    rw (← c.self.view_is) (sym (can_read-taken c.self.inside c.args.offset _ _ c.args.count c.self.invariant (spot c.self.inside c.args.offset c.self.invariant within) read))

@@ -1,0 +1,13 @@
+//! The maps of a program on one processor: lists of slots whose values stand at fixed addresses.
+#![tactic(auto)]
+
+mod buffers;
+mod search;
+mod slots;
+mod spec;
+mod store;
+#[cfg(test)]
+mod tests;
+
+pub use spec::{MapKind, MapSpec, spec_rule};
+pub use store::{DeleteEnd, Store, UpdateEnd};

@@ -1,0 +1,138 @@
+use super::*;
+use bpf_insn::Size;
+use lists::Bytes;
+use std::test::Fail;
+
+#[test]
+fn names_the_first_broken_rule(rt: HostRuntime) -> Result<(), Fail> {
+    // kind, key size, value size, entries, rule
+    let rows = [
+        (MapKind::Array, 4, 1, 1, None),
+        (MapKind::PercpuArray, 4, 65_536, 1_048_576, None),
+        (MapKind::PercpuHash, 1, 8, 1, None),
+        (MapKind::Hash, 512, 8, 1, None),
+        (MapKind::Array, 8, 0, 0, Some(6)),
+        (MapKind::PercpuArray, 3, 8, 1, Some(6)),
+        (MapKind::Hash, 0, 8, 1, Some(6)),
+        (MapKind::PercpuHash, 513, 8, 1, Some(6)),
+        (MapKind::Array, 4, 0, 0, Some(7)),
+        (MapKind::Hash, 4, 65_537, 1, Some(7)),
+        (MapKind::Array, 4, 8, 0, Some(8)),
+        (MapKind::Hash, 4, 8, 1_048_577, Some(8)),
+    ];
+    for (kind, key_size, value_size, max_entries, rule) in rows {
+        let spec = MapSpec {
+            kind,
+            key_size,
+            value_size,
+            max_entries,
+            initial: Bytes::new(rt.alloc()),
+        };
+        assert_eq!(rt; spec_rule(&spec), rule);
+    }
+    Ok(())
+}
+
+/// A spec without initial content, with keys of 4 bytes.
+fn spec_of(rt: &HostRuntime, kind: MapKind, value_size: u32, max_entries: u32) -> MapSpec {
+    MapSpec {
+        kind,
+        key_size: 4,
+        value_size,
+        max_entries,
+        initial: Bytes::new(rt.alloc()),
+    }
+}
+
+const ONE: [u8; 4] = [1, 0, 0, 0];
+
+const TWO: [u8; 4] = [2, 0, 0, 0];
+
+const THREE: [u8; 4] = [3, 0, 0, 0];
+
+#[test]
+fn keeps_two_keys(rt: HostRuntime) -> Result<(), Fail> {
+    let specs = [spec_of(&rt, MapKind::PercpuHash, 4, 2)];
+    let mut store = Store::new(rt.alloc(), &specs)?;
+    assert_eq!(rt; store.update(0, &ONE, &[1; 4], 0), UpdateEnd::Done);
+    assert_eq!(rt; store.update(0, &TWO, &[2; 4], 0), UpdateEnd::Done);
+    assert_eq!(rt; store.lookup(0, &ONE), Some(0x4000_0000));
+    assert_eq!(rt; store.lookup(0, &TWO), Some(0x4000_0008));
+    assert_eq!(rt; store.update(0, &THREE, &[3; 4], 0), UpdateEnd::NoRoom);
+    assert_eq!(rt; store.delete(0, &ONE), DeleteEnd::Done);
+    assert_eq!(rt; store.update(0, &THREE, &[3; 4], 0), UpdateEnd::Done);
+    assert_eq!(rt; store.lookup(0, &THREE), Some(0x4000_0000));
+    assert_eq!(rt; store.delete(0, &ONE), DeleteEnd::Missing);
+    Ok(())
+}
+
+#[test]
+fn answers_in_order(rt: HostRuntime) -> Result<(), Fail> {
+    let specs = [
+        spec_of(&rt, MapKind::Array, 4, 2),
+        spec_of(&rt, MapKind::PercpuArray, 4, 2),
+        spec_of(&rt, MapKind::PercpuHash, 4, 1),
+    ];
+    let mut store = Store::new(rt.alloc(), &specs)?;
+    // map, key, flags, answer
+    let updates = [
+        (0, ONE, 3, UpdateEnd::ReadOnly),
+        (1, TWO, 3, UpdateEnd::BadFlag),
+        (1, TWO, 1, UpdateEnd::NoRoom),
+        (1, ONE, 1, UpdateEnd::Exists),
+        (1, ONE, 2, UpdateEnd::Done),
+        (2, ONE, 2, UpdateEnd::Missing),
+        (2, ONE, 1, UpdateEnd::Done),
+        (2, ONE, 1, UpdateEnd::Exists),
+        (2, ONE, 2, UpdateEnd::Done),
+        (2, TWO, 2, UpdateEnd::Missing),
+        (2, TWO, 0, UpdateEnd::NoRoom),
+    ];
+    for (map, key, flags, answer) in updates {
+        assert_eq!(rt; store.update(map, &key, &[7; 4], flags), answer);
+    }
+    let deletes = [
+        (0, DeleteEnd::ReadOnly),
+        (1, DeleteEnd::Fixed),
+        (2, DeleteEnd::Done),
+    ];
+    for (map, answer) in deletes {
+        assert_eq!(rt; store.delete(map, &ONE), answer);
+    }
+    assert_eq!(rt; store.delete(2, &ONE), DeleteEnd::Missing);
+    Ok(())
+}
+
+#[test]
+fn moves_numbers_in_values(rt: HostRuntime) -> Result<(), Fail> {
+    let mut initial = Bytes::new(rt.alloc());
+    initial.append(&[1, 2, 3, 4, 5])?;
+    let constants = MapSpec {
+        kind: MapKind::Array,
+        key_size: 4,
+        value_size: 5,
+        max_entries: 1,
+        initial,
+    };
+    let specs = [constants, spec_of(&rt, MapKind::PercpuArray, 4, 2)];
+    let mut store = Store::new(rt.alloc(), &specs)?;
+    // address, size, number
+    let loads = [
+        (0x3fff_ffff, Size::Byte, None),
+        (0x4000_0000, Size::Word, Some(0x0403_0201)),
+        (0x4000_0004, Size::Byte, Some(5)),
+        (0x4000_0002, Size::Word, None),
+        (0x4000_0008, Size::Byte, None),
+        (0x4100_0008, Size::Word, Some(0)),
+        (0x4100_0000, Size::Double, None),
+        (0x4200_0000, Size::Byte, None),
+        (u64::MAX, Size::Byte, None),
+    ];
+    for (address, size, number) in loads {
+        assert_eq!(rt; store.load(address, size), number);
+    }
+    assert!(rt; !store.store(0x4000_0000, Size::Byte, 9));
+    assert!(rt; store.store(0x4100_000a, Size::Half, 0x1_0203));
+    assert_eq!(rt; store.load(0x4100_0008, Size::Word), Some(0x0203_0000));
+    Ok(())
+}
