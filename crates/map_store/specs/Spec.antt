@@ -1,5 +1,5 @@
 -- The rules 5 to 8 of a map's spec.
-use Rattle.std.specs.Prelude.{ℕ, Bool, false, not, ◌&&◌, ◌==◌, nat_le, List, [], ◌∷◌, find, Option}
+use Rattle.std.specs.Prelude.{ℕ, ◌+◌, ◌*◌, ◌/◌, Bool, false, not, ◌&&◌, ◌==◌, nat_le, List, [], ◌∷◌, find, Option}
 use Rattle.std.specs.Option.{option_map}
 use Rattle.map_store.specs.declared.spec.MapKind.{MapKind}
 use Rattle.map_store.specs.declared.spec.MapKind.TheVariants.{Hash, Array, PercpuHash, PercpuArray}
@@ -27,3 +27,11 @@ rules spec =
 -- the first rule that the spec breaks
 unfoldable pub spec_rule : MapSpec → Option ℕ
 spec_rule spec = option_map (λ rule. rule.0) (find (λ rule. rule.1) (rules spec))
+
+-- a size rounded up to a multiple of 8
+unfoldable pub rounded : ℕ → ℕ
+rounded size = (size + 7) / 8 * 8
+
+-- how many bytes a slot takes: its key and its rounded value
+abbrev pub slot_size : MapSpec → ℕ
+slot_size spec = spec.key_size + rounded spec.value_size

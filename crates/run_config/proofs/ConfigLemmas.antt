@@ -1,5 +1,5 @@
 -- The types say one thing of a function's configuration.
-use Rattle.std.proofs.Common.{◌≡◌, ℕ, ◌<◌, ◌↔◌, List, take, slice_get, Some, Result, Ok, Err, MatchResult, refl, ap, sym, ◌∙◌, subst, inl, inr, arith}
+use Rattle.std.proofs.Common.{◌≡◌, ℕ, ◌<◌, ◌↔◌, List, Some, Result, Ok, Err, MatchResult, refl, ap, sym, ◌∙◌, subst, inl, inr, arith}
 use Rattle.std.proofs.lemmas.Bool.{cases_eq, cases_lt}
 use Rattle.btf_types.specs.declared.types.Part.{Part}
 use Rattle.btf_types.specs.declared.types.TypeRow.{TypeRow}
@@ -9,7 +9,7 @@ use Rattle.run_config.specs.declared.config.BadConfig.{BadConfig}
 use Rattle.run_config.specs.Config.{IsConfig, by_default, no_structure, bad_member, by_members, config_variable, HasSettings, IsFirstBad, IsStructure}
 use Rattle.run_config.specs.Resolution.{Resolves}
 use Rattle.run_config.specs.Settings.{Sets, config_from}
-use Rattle.run_config.specs.Values.{Named, Paired}
+use Rattle.run_config.specs.Values.{Named}
 use Rattle.run_config.specs.Variables.{parts_of}
 use Rattle.run_config.proofs.CountedLemmas.{counts-unique}
 use Rattle.run_config.proofs.Pairing.{paired-at, paired-unique}

@@ -1,7 +1,5 @@
 -- A type counts as one value, and has one size.
-use Rattle.std.proofs.Common.{◌≡◌, ℕ, ◌*◌, Some, ap, sym, ◌∙◌, subst}
-use Rattle.btf_types.specs.declared.types.Part.{Part}
-use Rattle.btf_types.specs.declared.types.TypeRow.{TypeRow}
+use Rattle.std.proofs.Common.{◌≡◌, ℕ, ◌*◌, ap, sym, ◌∙◌, subst}
 use Rattle.btf_types.specs.Size.{HasSize, own, of_target, of_elements}
 use Rattle.btf_types.specs.TypeTable.{TypeTable}
 use Rattle.btf_types.proofs.Sizes.{size_own, size_of_target, size_of_elements}

@@ -1,13 +1,10 @@
 -- What is given with one member more.
-use Rattle.std.proofs.Common.{◌≡◌, ℕ, Bool, true, false, List, [], ◌∷◌, ◌++◌, codes, Some, None, Option, Result, Ok, Err, cond, unwrap_or, refl, ap, sym, ◌∙◌}
+use Rattle.std.proofs.Common.{◌≡◌, ℕ, true, false, List, [], ◌∷◌, ◌++◌, codes, Some, None, Err, cond, unwrap_or, refl}
 use Rattle.std.specs.Str.{bytes_eq}
 use Rattle.map_store.specs.declared.spec.MapKind.{MapKind}
 use Rattle.map_store.specs.declared.spec.MapSpec.{MapSpec}
 use Rattle.map_store.specs.Spec.{spec_rule}
 use Rattle.run_config.specs.declared.map_definition.Given.{Given}
-use Rattle.run_config.specs.declared.map_member.Field.{Field}
-use Rattle.run_config.specs.declared.map_member.Field.TheVariants.{Kind, MaxEntries, KeySize, ValueSize, MapFlags, Pinning, Key, Value}
-use Rattle.run_config.specs.FieldName.{field_name}
 use Rattle.run_config.specs.Given.{given_by, is_contrary_given}
 use Rattle.run_config.specs.MapDefinition.{is_contrary, kept_or, kind_of, size_from, spec_from, spec_of}
 use Rattle.run_config.specs.Values.{Named, last_value}

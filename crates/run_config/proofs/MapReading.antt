@@ -1,14 +1,13 @@
 -- A member of a map's definition reads as one thing, and so do all.
-use Rattle.std.proofs.Common.{◌≡◌, ℕ, zero, suc, ◌+◌, ◌<◌, ◌≤◌, ◌⊎◌, Bool, true, false, List, [], ◌∷◌, ◌++◌, codes, length, min, slice_get, Some, Result, Ok, Err, refl, ap, sym, ◌∙◌, subst, inl, inr, arith}
+use Rattle.std.proofs.Common.{◌≡◌, ℕ, zero, suc, ◌+◌, ◌≤◌, ◌⊎◌, true, false, List, [], ◌∷◌, ◌++◌, codes, length, min, slice_get, Some, Result, Ok, Err, refl, ap, sym, ◌∙◌, subst, inl, inr, arith}
 use Rattle.std.specs.Str.{bytes_eq}
 use Rattle.std.proofs.lemmas.Bool.{cases_lt, or_cases}
 use Rattle.std.specs.Cmp.Lexicographic.{same_text}
-use Rattle.std.proofs.lemmas.Option.{slice_get_within}
 use Rattle.btf_types.specs.declared.types.Part.{Part}
 use Rattle.btf_types.specs.Size.{HasSize}
 use Rattle.btf_types.specs.TypeTable.{TypeTable}
 use Rattle.run_config.specs.MapMembers.{Reads, reads_number, reads_size, is_other, no_number, no_pointer, no_size, ReadsAll, all_kept, least_broken, Points, is_number, is_size}
-use Rattle.run_config.specs.Values.{Named, Paired, none as nothing}
+use Rattle.run_config.specs.Values.{Named, none as nothing}
 use Rattle.run_config.proofs.CountedLemmas.{counts-unique, size-unique}
 use Rattle.run_config.proofs.Pairing.{paired-at, paired-push, paired-unique}
 

@@ -1,5 +1,5 @@
 -- The maps of the entries so far.
-use Rattle.std.proofs.Common.{◌≡◌, ◌≢◌, ℕ, ◌+◌, ◌≤◌, List, [], ◌∷◌, ◌++◌, length, length-append, append-nil, take, slice_get, Some, None, refl, ap, sym, ◌∙◌, subst, arith}
+use Rattle.std.proofs.Common.{◌≡◌, ℕ, ◌+◌, List, [], ◌∷◌, ◌++◌, length, length-append, append-nil, take, slice_get, Some, None, refl, ap, sym, ◌∙◌, subst, arith}
 use Rattle.std.specs.List.{filter_map}
 use Rattle.std.proofs.lemmas.List.{take_at}
 use Rattle.std.proofs.lemmas.List.Elements.{filter_map-append}
@@ -8,7 +8,7 @@ use Rattle.btf_types.specs.declared.types.Part.{Part}
 use Rattle.btf_types.specs.declared.types.TypeRow.{TypeRow}
 use Rattle.btf_types.specs.TypeTable.{TypeTable}
 use Rattle.run_config.specs.declared.maps.NamedMap.{NamedMap}
-use Rattle.run_config.specs.Maps.{AreMaps, Breaks, IsFirstBreak, most_maps, most_room, Pushes, room_of, total_room}
+use Rattle.run_config.specs.Maps.{AreMaps, Breaks, IsFirstBreak, Pushes, room_of, total_room}
 use Rattle.run_config.specs.Values.{none}
 use Rattle.run_config.specs.Variables.{variable_of}
 use Rattle.run_config.proofs.Pairing.{paired-length, paired-push}

@@ -1,5 +1,5 @@
 -- A type resolves to one row, in fewer steps than there are types.
-use Rattle.std.proofs.Common.{◌≡◌, ℕ, zero, suc, ◌+◌, ◌-◌, ◌<◌, ◌≤◌, ◌↔◌, Bool, true, false, length, Some, refl, ap, sym, ◌∙◌, subst, arith, IsTrue}
+use Rattle.std.proofs.Common.{◌≡◌, ℕ, zero, suc, ◌+◌, ◌-◌, ◌<◌, ◌≤◌, ◌↔◌, true, false, length, Some, refl, ap, subst, arith, IsTrue}
 use Rattle.std.proofs.lemmas.Option.{slice_get_within}
 use Rattle.btf_types.proofs.Pigeonhole.{pigeonhole}
 use Rattle.btf_types.specs.declared.types.TypeRow.{TypeRow}

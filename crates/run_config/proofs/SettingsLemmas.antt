@@ -1,5 +1,5 @@
 -- One setting more.
-use Rattle.std.proofs.Common.{◌≡◌, ℕ, ◌==◌, ◌^◌, Bool, true, false, cond, not, List, [], ◌∷◌, ◌++◌, codes, Some, None, Option, find, reverse, refl, ap, sym, ◌∙◌, unwrap_or, IfNone}
+use Rattle.std.proofs.Common.{◌≡◌, ℕ, ◌==◌, Bool, true, false, cond, not, List, [], ◌∷◌, ◌++◌, codes, Some, None, Option, find, reverse, refl, ◌∙◌, unwrap_or, IfNone}
 use Rattle.std.specs.Option.{option_map, option_map_or}
 use Rattle.std.specs.Str.{bytes_eq}
 use Rattle.std.proofs.lemmas.List.{reverse-append}

@@ -1,5 +1,5 @@
 -- The run configuration of a function, as libxdp writes it into an object: a variable of `.xdp_run_config`.
-use Rattle.std.specs.Prelude.{◌≡◌, ℕ, ◌++◌, List, [], codes, find, take, slice_get, Option, Some, None, Result, Ok, Err}
+use Rattle.std.specs.Prelude.{◌≡◌, ℕ, ◌++◌, List, codes, find, take, slice_get, Option, Some, None, Result, Ok, Err}
 use Rattle.std.specs.Str.{bytes_eq}
 use Rattle.btf_types.specs.declared.types.Part.{Part}
 use Rattle.btf_types.specs.declared.types.TypeRow.{TypeRow}

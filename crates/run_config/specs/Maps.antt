@@ -1,15 +1,12 @@
 -- The maps of an object, by the variables of its section `.maps`, and the rules M1 to M10 that they keep.
-use Rattle.std.specs.Prelude.{◌≡◌, ◌≢◌, ℕ, ◌+◌, ◌*◌, ◌/◌, ◌<◌, ◌≤◌, List, [], ◌∷◌, ◌++◌, codes, length, sum_by, take, slice_get, Some, Result, Ok, Err}
+use Rattle.std.specs.Prelude.{◌≡◌, ◌≢◌, ℕ, ◌*◌, ◌<◌, ◌≤◌, List, [], ◌∷◌, ◌++◌, length, sum_by, take, slice_get, Some, Ok, Err}
 use Rattle.btf_types.specs.declared.types.TypeRow.{TypeRow}
 use Rattle.btf_types.specs.TypeTable.{TypeTable, name_at}
 use Rattle.map_store.specs.declared.spec.MapSpec.{MapSpec}
+use Rattle.map_store.specs.Spec.{slot_size}
 use Rattle.run_config.specs.declared.maps.NamedMap.{NamedMap}
 use Rattle.run_config.specs.Values.{Paired}
 use Rattle.run_config.specs.MapDefinition.{Defines}
-
--- a slot has a key and a value, whose size is rounded up to a multiple of 8
-unfoldable pub slot_size : MapSpec → ℕ
-slot_size spec = spec.key_size + (spec.value_size + 7) / 8 * 8
 
 -- the bytes of a map's slots, and of those of maps
 unfoldable pub room_of : MapSpec → ℕ

@@ -1,6 +1,6 @@
 //! The run configuration of a function.
 
-ghost use Rattle.std.specs.Prelude.{◌≡◌, ℕ, ◌≤◌, ◌↔◌, ◌++◌, List, codes, length, Some, Result, IfSome, MatchResult, option_copied};
+ghost use Rattle.std.specs.Prelude.{◌≡◌, ◌≤◌, ◌↔◌, ◌++◌, codes, length, Some, Result, IfSome, MatchResult, option_copied};
 ghost use Rattle.std.specs.Str.{bytes_eq};
 ghost use Rattle.btf_types.specs.declared.types.TypeRow.{TypeRow};
 ghost use Rattle.btf_types.specs.TypeTable.{name_at, RowFits};

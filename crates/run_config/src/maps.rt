@@ -44,7 +44,7 @@ impl From<OutOfMemory> for MapsEnd {
 }
 
 /// The bytes that a map's slots take.
-#[tactic(auto, using(crate::proofs::Kept::bounds), unfolding(crate::specs::Maps::slot_size, crate::specs::Maps::room_of))]
+#[tactic(auto, using(crate::proofs::Kept::bounds), unfolding(map_store::specs::Spec::rounded, crate::specs::Maps::room_of))]
 fn room_of(spec: &MapSpec) -> u64
     requires { rules_of.spec_rule spec.now ≡ None }
     ensures value { result ≡ maps_by.room_of spec.now }

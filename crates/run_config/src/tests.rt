@@ -1,7 +1,7 @@
 //! Types made one by one, and what they say of configurations and maps.
 
 use super::*;
-use btf_types::{Types, kind, read_btf};
+use btf_types::{kind, read_btf};
 use lists::Bytes;
 use map_store::MapKind;
 use std::alloc::Global;
@@ -238,6 +238,32 @@ fn members_that_set_nothing(rt: HostRuntime) -> Result<(), Fail> {
     let bytes = builder.bytes()?;
     let types = read_btf(rt.alloc(), bytes.as_slice())?;
     assert_eq!(rt; config_of(&types, b"f"), Err(BadConfig { member: 0 }));
+    Ok(())
+}
+
+#[test]
+fn modifiers(rt: HostRuntime) -> Result<(), Fail> {
+    let mut builder = Builder::new(rt.alloc())?;
+    let structure = builder.structure(&[(b"priority", Count(7))])?;
+    let named = builder.add(0, kind::TYPEDEF, 0, structure)?;
+    let constant = builder.add(0, kind::CONST, 0, named)?;
+    let itself = constant.checked_add(1).ok_or("too many types")?;
+    builder.add(0, kind::VOLATILE, 0, itself)?;
+    let given = builder.variable(b"_f", constant)?;
+    let circle = builder.variable(b"_g", itself)?;
+    let map = builder.variable(b"map", constant)?;
+    builder.section(b".xdp_run_config", &[given, circle])?;
+    builder.section(b".maps", &[map])?;
+    let bytes = builder.bytes()?;
+    let types = read_btf(rt.alloc(), bytes.as_slice())?;
+    let config = RunConfig {
+        priority: 7,
+        mask: 4,
+    };
+    assert_eq!(rt; config_of(&types, b"f"), Ok(config));
+    assert_eq!(rt; config_of(&types, b"g"), Err(BadConfig { member: 0 }));
+    let no_structure = MapsEnd::BadMap { index: 0, rule: 1 };
+    assert_eq!(rt; maps_of(rt.alloc(), &types).err(), Some(no_structure));
     Ok(())
 }
 

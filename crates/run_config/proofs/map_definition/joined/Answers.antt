@@ -1,5 +1,4 @@
 use Rattle.std.proofs.Common.{ℕ, Result, Err, subst}
-use Rattle.btf_types.specs.declared.types.Part.{Part}
 use Rattle.run_config.specs.declared.map_definition.Given.{Given}
 use Rattle.run_config.specs.declared.map_member.Field.{Field}
 use Rattle.run_config.specs.Given.{AreGiven, IsGiven, IsRead}

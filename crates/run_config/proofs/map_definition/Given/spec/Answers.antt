@@ -1,4 +1,4 @@
-use Rattle.std.proofs.Common.{◌≡◌, ℕ, Bool, true, false, List, Option, Some, None, ap, refl, sym, ◌∙◌, unwrap_or}
+use Rattle.std.proofs.Common.{◌≡◌, ℕ, Bool, true, false, List, Option, ap, refl, sym, ◌∙◌, unwrap_or}
 use Rattle.map_store.specs.declared.spec.MapSpec.{MapSpec}
 use Rattle.map_store.specs.Spec.{spec_rule}
 use Rattle.run_config.specs.declared.map_definition.Given.{Given}
