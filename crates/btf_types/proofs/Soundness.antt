@@ -1,5 +1,5 @@
 -- Bytes that break no rule hold sound types.
-use Rattle.std.proofs.Common.{◌≡◌, ◌≢◌, ℕ, ◌+◌, ◌<◌, ◌≤◌, ◌⊎◌, Bool, true, false, cond, IsTrue, nat_eq, nat_lt, nat_le, List, [], ◌∷◌, ◌++◌, map, length, Some, None, suc, length-append, refl, ap, ◌∙◌, inl, inr, arith}
+use Rattle.std.proofs.Common.{◌≡◌, ◌≢◌, ℕ, ◌+◌, ◌<◌, ◌≤◌, ◌^◌, ◌⊎◌, Bool, true, false, cond, IsTrue, nat_eq, nat_lt, nat_le, List, [], ◌∷◌, ◌++◌, map, length, Some, None, suc, length-append, refl, ap, ◌∙◌, inl, inr, arith}
 use Rattle.std.specs.List.{flat_map, list_all, AllByRecursion}
 use Rattle.std.proofs.lemmas.Bool.{and_parts, ltb-true, leb-true, cases_eq, cases_Bool, ne_eqb, not-false}
 use Rattle.btf_types.specs.declared.bad_btf.BadBtf.{BadBtf}
@@ -55,7 +55,7 @@ target_not kind other without with e = cc
 no_target : (has_target ARRAY ≡ false) × (has_target STRUCT ≡ false) × (has_target UNION ≡ false) × (has_target DATASEC ≡ false)
 no_target = (refl, refl, refl, refl)
 
-module _ (types : TypeTable) (some : 0 < length types.strings) where
+module _ (types : TypeTable) (some : 0 < length types.strings) (few : length types.parts < 2 ^ 32) where
   members_fit : (entries : List (List ℕ)) → list_all (λ name. nat_lt name (length types.strings)) (map (λ entry. word_at entry 0) entries) ≡ true → list_all (λ reference. nat_le reference (length types.rows)) (map (λ entry. word_at entry 4) entries) ≡ true → AllByRecursion (PartFits types) (map member entries)
   members_fit [] n r = tt
   members_fit (entry ∷ entries) n r =
@@ -137,6 +137,7 @@ module _ (types : TypeTable) (some : 0 < length types.strings) where
   row_fits first head keeps within = record {
     name = ltb-true _ _ (and_parts _ _ keeps.names).0;
     parts = within;
+    numbers = omega arith;
     target = target_fits head keeps;
     array = one_part head;
   }
@@ -163,9 +164,9 @@ keep_both types end (head ∷ heads) n r =
     (record { names = not-false _ n.0; references = not-false _ r.0 }, keep_both types end heads n.1 r.1)
 
 -- bytes that break no rule hold sound types
-pub sound : (bytes : List ℕ) → 0 < length (strings_of bytes) → first_break bytes ≡ None → IsSound (types_of bytes)
+pub sound : (bytes : List ℕ) → 0 < length (strings_of bytes) → length (types_of bytes).parts < 2 ^ 32 → first_break bytes ≡ None → IsSound (types_of bytes)
 unfolding first_break rules_of types_of
-sound bytes some h =
+sound bytes some few h =
     let end = types_end bytes in
     let heads = types_in (type_section bytes) in
     let types = types_of bytes in
@@ -175,8 +176,8 @@ sound bytes some h =
     let third = kept_parts (header_rules bytes ++ walk_rules end heads) (map names heads) last.0 in
     let keep = keep_both types end heads (kept_all names heads third.1) (rw length-rows_from (kept_all references heads last.1)) in
     record {
-      rows = all_rows_fit types some 0 heads keep (omega arith);
-      parts = all_parts_fit types some heads keep;
+      rows = all_rows_fit types some few 0 heads keep (omega arith);
+      parts = all_parts_fit types some few heads keep;
     }
 
 -- the lists that were read are the types

@@ -1,5 +1,5 @@
 -- What callers know of the types that were read: the value of `Types`.
-use Rattle.std.specs.Prelude.{◌≡◌, ℕ, zero, suc, ◌+◌, ◌<◌, ◌≤◌, IsTrue, Bool, ◌==◌, ◌&&◌, List, length, drop, slice_get, position, Option, None}
+use Rattle.std.specs.Prelude.{◌≡◌, ℕ, zero, suc, ◌+◌, ◌<◌, ◌≤◌, ◌^◌, IsTrue, Bool, ◌==◌, ◌&&◌, List, length, drop, slice_get, position, Option, None}
 use Rattle.std.specs.List.{before_first, AllByRecursion}
 use Rattle.std.specs.Option.{option_map}
 use Rattle.std.specs.Str.{bytes_eq}
@@ -28,10 +28,11 @@ is_section_named types name row = (row.kind == DATASEC) && bytes_eq (name_at typ
 abbrev pub section_vars : TypeTable → List ℕ → Option ℕ
 section_vars types name = option_map (λ place. place + 1) (position (is_section_named types name) types.rows)
 
--- a row's name, parts and target are there, and an array has one part
+-- a row's name, parts and target are there, its parts' numbers are below 2 ^ 32, and an array has one part
 pub record RowFits (types : TypeTable) (row : TypeRow) : Type 0 where
   pub name : row.name < length types.strings
   pub parts : row.first + row.count ≤ length types.parts
+  pub numbers : row.first + row.count < 2 ^ 32
   pub target : IsTrue (has_target row.kind) → row.size_or_target ≤ length types.rows
   pub array : row.kind ≡ ARRAY → row.count ≡ 1
 

@@ -1,0 +1,15 @@
+pub mod Bits
+pub mod ConfigLemmas
+pub mod CountedLemmas
+pub mod FirstVariable
+pub mod GivenLemmas
+pub mod Joining
+pub mod Kept
+pub mod MapReading
+pub mod MapsFront
+pub mod MapsLemmas
+pub mod Members
+pub mod Pairing
+pub mod Parts
+pub mod Resolving
+pub mod SettingsLemmas

@@ -1,0 +1,12 @@
+pub mod Resolution
+pub mod Counted
+pub mod Variables
+pub mod Values
+pub mod Settings
+pub mod SettingName
+pub mod Config
+pub mod MapMembers
+pub mod MapDefinition
+pub mod FieldName
+pub mod Given
+pub mod Maps

@@ -1,0 +1,19 @@
+//! The run configuration of a function and the definitions of maps, from an object's BTF.
+#![tactic(auto)]
+
+mod config;
+mod counted;
+pub mod laws;
+mod map_definition;
+mod map_member;
+mod maps;
+mod resolution;
+mod settings;
+mod variables;
+
+pub use config::{BadConfig, config_of};
+pub use maps::{MapsEnd, NamedMap, maps_of};
+pub use settings::RunConfig;
+
+#[cfg(test)]
+mod tests;
