@@ -1,16 +1,16 @@
 -- What processors have carried, as packets come and publications are made.
-use Rattle.std.proofs.Common.{◌≡◌, ℕ, ◌+◌, ◌<◌, ◌≤◌, Bool, true, false, cond, nat_eq, List, [], ◌∷◌, ◌++◌, length, length-append, take, map, filter, append-nil, append_assoc, arith, refl, ap, sym, ◌∙◌, add-zero, Option, Some, None}
+use Rattle.std.proofs.Common.{◌≡◌, ℕ, ◌+◌, Bool, true, false, cond, nat_eq, List, [], ◌∷◌, ◌++◌, length, take, map, append-nil, append_assoc, arith, refl, ap, ◌∙◌}
 use Rattle.std.proofs.Math.Seq.{take-length}
 use Rattle.std.proofs.lemmas.Bool.Decides.{nat_tests}
 use Rattle.std.proofs.lemmas.List.{take-append-le, map-append, length-map}
 use Rattle.std.proofs.lemmas.List.Elements.{filter-append}
 use Rattle.std.specs.Option.{option_map}
-use Rattle.xdp_state.specs.Book.{Book, after}
+use Rattle.xdp_state.specs.Book.{after}
 use Rattle.xdp_state.specs.Sums.{Counted}
 use Rattle.xdp_state.specs.Traversal.{traversal}
 use Rattle.xdp_state.specs.declared.change.Change.{Change}
 use Rattle.xdp_tool.specs.Carried.{Carried, carried}
-use Rattle.xdp_tool.specs.Lanes.{Progress, advanced, at_hand_in, carried_over, if_traced, progress_of, progress_from, advance_from}
+use Rattle.xdp_tool.specs.Lanes.{advanced, at_hand_in, carried_over, if_traced, progress_of, progress_from, advance_from}
 use Rattle.xdp_tool.specs.Legal.{AreLegalCounts}
 use Rattle.xdp_tool.specs.Plan.{HandIn, Item, Phase, hand_ins_of, needs_of, with_packet}
 use Rattle.xdp_tool.specs.Queues.{Queue}

@@ -1,5 +1,5 @@
 -- Legal counts, as packets come, publications are made and phases end.
-use Rattle.std.proofs.Common.{◌≡◌, ℕ, ◌+◌, ◌<◌, ◌≤◌, List, [], ◌∷◌, ◌++◌, length, length-append, arith, refl}
+use Rattle.std.proofs.Common.{◌≡◌, ℕ, ◌+◌, ◌≤◌, List, [], ◌∷◌, ◌++◌, length, arith, refl}
 use Rattle.std.specs.Prelude.{⊤}
 use Rattle.xdp_tool.specs.Lanes.{needs_from}
 use Rattle.xdp_tool.specs.Legal.{AreLegalCounts, AreLegalFrom, AreLegalAfter, last_of, lasts_of, none_yet}

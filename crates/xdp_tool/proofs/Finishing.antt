@@ -1,12 +1,11 @@
 -- What the lanes show when a phase has ended.
-use Rattle.std.proofs.Common.{◌≡◌, ℕ, ◌+◌, ◌≤◌, Bool, true, false, List, [], ◌∷◌, ◌++◌, length, map, flat_map, arith, refl, ap, sym, ◌∙◌, Option, Some, None, append-nil, append_assoc, unwrap_or, ◌<◌, ◌||◌, take, get_or, zero, suc}
+use Rattle.std.proofs.Common.{◌≡◌, ℕ, ◌+◌, Bool, true, false, List, [], ◌∷◌, ◌++◌, length, map, flat_map, arith, refl, ap, sym, ◌∙◌, append-nil, append_assoc, ◌<◌, ◌||◌, take, get_or, zero, suc}
 use Rattle.xdp_state.specs.Sums.{Counted, tally_of}
-use Rattle.xdp_tool.specs.Carried.{carried, counted_all}
-use Rattle.xdp_tool.specs.Lanes.{Progress, Shows, ShowAll, at_hand_in, finished, idle, if_traced, lanes_text, needs_from, progress_of, progress_from, traces_of}
-use Rattle.xdp_tool.specs.Plan.{Phase, hand_ins_of, needs_of, opened}
+use Rattle.xdp_tool.specs.Lanes.{Progress, ShowAll, finished, lanes_text, needs_from, progress_from, traces_of}
+use Rattle.xdp_tool.specs.Plan.{Phase, needs_of, opened}
 use Rattle.xdp_tool.specs.Queues.{Queue}
 use Rattle.xdp_tool.specs.Texts.{counted_with, processors_text}
-use Rattle.xdp_tool.specs.Trace.{packets_trace, processors_trace}
+use Rattle.xdp_tool.specs.Trace.{processors_trace}
 use Rattle.xdp_tool.specs.declared.lane.Lane.{Lane}
 
 -- each processor begins the next phase with the sums of all its packets

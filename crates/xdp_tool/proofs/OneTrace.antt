@@ -1,5 +1,5 @@
 -- One file that is made, written as a sink and closed: what that changes of all files.
-use Rattle.std.proofs.Common.{◌≡◌, ℕ, Bool, true, false, List, [], ◌++◌, take, Ok, Some, append-nil, refl, sym, ap, ◌∙◌, not, unwrap_or, IsTrue, inl, inr, Option, None, IfSome, Result, Err}
+use Rattle.std.proofs.Common.{◌≡◌, ℕ, Bool, true, false, List, [], ◌++◌, Ok, Some, append-nil, refl, sym, ap, ◌∙◌, not, unwrap_or, IsTrue, inl, inr, Option, None, IfSome, Result, Err}
 use Rattle.std.proofs.Math.Seq.{take-nil}
 use Rattle.std.proofs.lemmas.Bool.{true≢false, false≢true}
 use Rattle.std.specs.Cmp.Lexicographic.{pointwise}

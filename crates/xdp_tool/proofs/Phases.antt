@@ -1,5 +1,5 @@
 -- What phases that have ended printed and left in the trace, as one phase more ends.
-use Rattle.std.proofs.Common.{◌≡◌, ℕ, ◌+◌, Bool, List, [], ◌∷◌, ◌++◌, length, length-append, append-nil, append_assoc, arith, refl, ap, sym, true, false, ◌∙◌, ◌||◌}
+use Rattle.std.proofs.Common.{◌≡◌, ℕ, ◌+◌, Bool, List, [], ◌∷◌, ◌++◌, length, append-nil, append_assoc, arith, refl, ap, sym, true, false, ◌∙◌, ◌||◌}
 use Rattle.std.proofs.lemmas.List.Folds.{list_any-append}
 use Rattle.std.specs.List.{list_any}
 use Rattle.xdp_state.specs.Sums.{Counted}

@@ -1,21 +1,18 @@
 -- A run, as one phase after another ends.
-use Rattle.std.proofs.Common.{◌≡◌, ℕ, ◌+◌, ◌≤◌, Bool, true, false, ◌||◌, List, [], ◌∷◌, ◌++◌, length, length-append, append-nil, append_assoc, take, Result, Ok, Err, arith, refl, ap, sym, ◌∙◌}
+use Rattle.std.proofs.Common.{◌≡◌, ℕ, ◌+◌, ◌≤◌, Bool, true, false, List, [], ◌∷◌, ◌++◌, length, length-append, append-nil, append_assoc, take, Result, Ok, Err, arith, refl, ap, sym, ◌∙◌}
 use Rattle.std.proofs.Math.Seq.{take-length, take-append-add}
 use Rattle.std.specs.Prelude.{if◌then◌else◌}
-use Rattle.std.specs.List.{list_any}
 use Rattle.xio.specs.Prefixes.{AppendsPrefix}
-use Rattle.xdp_state.specs.Sums.{Counted}
 use Rattle.xdp_state.specs.declared.interface.Interface.{Interface}
 use Rattle.xdp_tool.proofs.Counts.{AllWithin, lasts_after, lasts_after-more, lasts-within, length-lasts, legal-more, legal-front, legal-needs_from, within-none, length-none}
-use Rattle.xdp_tool.proofs.Finishing.{length-counted_with}
 use Rattle.xdp_tool.proofs.Phases.{counted_after, counted_after-more, refusal-more, texts-front, texts-more, traces-front, traces-more}
 use Rattle.xdp_tool.specs.Lanes.{needs_from}
-use Rattle.xdp_tool.specs.Legal.{AreLegalCounts, AreLegal, AreLegalAfter, AreLegalFrom, lasts_of, none_yet}
+use Rattle.xdp_tool.specs.Legal.{AreLegalCounts, AreLegal, AreLegalAfter, AreLegalFrom, none_yet}
 use Rattle.xdp_tool.specs.PhaseEnd.{EndsChoices, EndsText, PutsText}
-use Rattle.xdp_tool.specs.Plan.{Phase, has_refusal, is_refused, needs_of, opened}
+use Rattle.xdp_tool.specs.Plan.{Phase, has_refusal, needs_of}
 use Rattle.xdp_tool.specs.Queues.{Queue, queues_of}
-use Rattle.xdp_tool.specs.Texts.{nothing_counted, out_text, phase_text, texts_from}
-use Rattle.xdp_tool.specs.Trace.{first_line, phase_trace, trace_if, traced_text, traces_from, traces_if}
+use Rattle.xdp_tool.specs.Texts.{nothing_counted, out_text, phase_text}
+use Rattle.xdp_tool.specs.Trace.{first_line, trace_if, traced_text, traces_from, traces_if}
 use Rattle.xdp_tool.specs.Walked.{Past, Stands, no_past, past_after}
 use Rattle.xdp_tool.specs.declared.perform.Stop.{Stop}
 use Rattle.xdp_tool.specs.declared.perform.Stop.TheVariants.{Fault, OutOfMemory}

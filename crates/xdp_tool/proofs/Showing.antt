@@ -1,10 +1,9 @@
 -- Lanes that show their processors' progress.
-use Rattle.std.proofs.Common.{◌≡◌, ℕ, ◌+◌, ◌<◌, ◌≤◌, Bool, true, false, cond, nat_eq, List, [], ◌∷◌, ◌++◌, length, slice_set, slice_index_or, map, flat_map, arith, refl, ap, zero, suc, append-nil, append_assoc, add-zero, add-one, get_or, take, Result, Ok, Err, OnOk, IfOk, min, ◌∙◌, sym}
+use Rattle.std.proofs.Common.{◌≡◌, ℕ, ◌+◌, ◌<◌, ◌≤◌, Bool, true, false, nat_eq, List, [], ◌∷◌, ◌++◌, length, slice_set, slice_index_or, map, arith, refl, ap, zero, suc, append-nil, append_assoc, add-zero, add-one, get_or, take, Result, Ok, Err, OnOk, ◌∙◌, sym}
 use Rattle.std.proofs.lemmas.List.{take_more, length-take}
 use Rattle.std.proofs.lemmas.Bool.Decides.{nat_tests}
 use Rattle.xdp_state.specs.Book.{Book}
-use Rattle.xdp_state.specs.Sums.{Counted}
-use Rattle.xdp_tool.specs.Lanes.{Progress, Shows, ShowAll, advanced, advance_from, idle, finished, finished_first, lanes_text, progress_from, if_traced}
+use Rattle.xdp_tool.specs.Lanes.{Progress, Shows, ShowAll, advanced, advance_from, idle, finished, finished_first, progress_from}
 use Rattle.xdp_tool.specs.Plan.{opened}
 use Rattle.xdp_tool.specs.Queues.{Queue, queues_from, queues_on}
 use Rattle.xdp_tool.specs.Texts.{nothing_counted}

@@ -1,5 +1,5 @@
 -- The facts that a walk keeps, as packets come and publications are made.
-use Rattle.std.proofs.Common.{◌≡◌, ℕ, ◌+◌, ◌<◌, ◌≤◌, Bool, true, false, ◌||◌, nat_eq, List, [], ◌∷◌, ◌++◌, length, length-append, append-nil, arith, refl, ap, sym, ◌∙◌}
+use Rattle.std.proofs.Common.{◌≡◌, ℕ, ◌+◌, ◌≤◌, Bool, true, false, ◌||◌, nat_eq, List, [], ◌∷◌, ◌++◌, length, length-append, append-nil, refl, ap, sym, ◌∙◌}
 use Rattle.std.proofs.lemmas.Grind.{flat_map-append}
 use Rattle.std.proofs.lemmas.List.Folds.{list_any-append}
 use Rattle.std.proofs.lemmas.List.Sums.{fold-append}
@@ -11,9 +11,9 @@ use Rattle.xdp_state.specs.declared.change.Change.{Change}
 use Rattle.xdp_state.specs.declared.change.Change.TheVariants.{Attach, Detach, SetRule, ClearRule}
 use Rattle.xdp_state.specs.declared.interface.Interface.{Interface}
 use Rattle.xdp_tool.proofs.Carrying.{needs_of-here, needs_of-other}
-use Rattle.xdp_tool.proofs.Counts.{legal-higher, legal-push}
+use Rattle.xdp_tool.proofs.Counts.{legal-push}
 use Rattle.xdp_tool.specs.Legal.{AreLegalCounts}
-use Rattle.xdp_tool.specs.Plan.{HandIn, Item, Phase, is_refused, needs_of}
+use Rattle.xdp_tool.specs.Plan.{HandIn, Item, is_refused, needs_of}
 use Rattle.xdp_tool.specs.Texts.{item_text, items_text, table_text}
 
 pub after-push : (published : List Change) (change : Change) → after (published ++ change ∷ []) ≡ applied (after published) change

@@ -1,17 +1,14 @@
 -- How a walk over a script's lines stands for the phase of the lines so far.
-use Rattle.std.specs.Prelude.{◌≡◌, ◌⊎◌, ℕ, ◌≤◌, ◌||◌, Bool, false, List, [], ◌∷◌, ◌++◌, length, ⊤, Result, Ok, Err}
+use Rattle.std.specs.Prelude.{◌≡◌, ℕ, ◌≤◌, ◌||◌, Bool, false, List, length}
 use Rattle.std.specs.List.{list_any}
 use Rattle.xdp_state.specs.Book.{after}
 use Rattle.xdp_state.specs.Sums.{Counted}
 use Rattle.xdp_state.specs.declared.interface.Interface.{Interface}
-use Rattle.xio.specs.Prefixes.{AppendsPrefix}
 use Rattle.xdp_tool.specs.Lanes.{ShowAll, needs_from, progress_from}
 use Rattle.xdp_tool.specs.Legal.{AreLegalCounts}
 use Rattle.xdp_tool.specs.Plan.{Phase, is_refused, needs_of}
 use Rattle.xdp_tool.specs.Queues.{queues_of}
 use Rattle.xdp_tool.specs.Texts.{counted_with, items_text, nothing_counted}
-use Rattle.xdp_tool.specs.declared.perform.Stop.{Stop}
-use Rattle.xdp_tool.specs.declared.perform.Stop.TheVariants.{Fault, OutOfMemory}
 use Rattle.xdp_tool.specs.declared.walk.Walk.{Walk}
 
 -- What was before the phase under way: by processor the packets that were carried, how many publications there were at its

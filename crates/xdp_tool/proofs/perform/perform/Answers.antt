@@ -1,4 +1,4 @@
-use Rattle.std.proofs.Common.{◌≡◌, ◌∙◌}
+use Rattle.std.proofs.Common.{◌∙◌}
 use Rattle.xio.proofs.PrefixLemmas.{prefix_more, prefix_of_front}
 use Rattle.xdp_tool.specs.Plan.{plan}
 use Rattle.xdp_tool.specs.Queues.{queues_of}

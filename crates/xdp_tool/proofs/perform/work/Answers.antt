@@ -1,7 +1,7 @@
-use Rattle.std.proofs.Common.{◌≡◌, ◌+◌, ◌<◌, ◌≤◌, ◌++◌, [], ◌∷◌, length, drop, get_or, Some, None, Ok, Err, ap, sym, ◌∙◌, refl, arith, append-nil, append_assoc, rules}
-use Rattle.xdp_tool.proofs.Running.{Steps, ran-none, steps-of, stopped-legal, stopped-out, stopped-trace, traces-none}
-use Rattle.xdp_tool.proofs.Working.{closed-legal, closed-out, closed-ran, closed-trace, ended_by, last-unclosed, plan-barrier, plan-last, plan-step, not-ok, not-ok-value, puts-front, step-unclosed}
-use Rattle.xdp_tool.specs.Plan.{Phase, opened, phases_from, plan, with_what}
+use Rattle.std.proofs.Common.{◌≡◌, ◌<◌, ◌++◌, [], ◌∷◌, length, drop, get_or, Some, None, Ok, Err, ap, sym, ◌∙◌, refl, arith, append-nil, append_assoc, rules}
+use Rattle.xdp_tool.proofs.Running.{ran-none, steps-of, stopped-legal, stopped-out, stopped-trace, traces-none}
+use Rattle.xdp_tool.proofs.Working.{closed-legal, closed-out, closed-ran, closed-trace, ended_by, plan-barrier, plan-last, plan-step, not-ok, not-ok-value, puts-front, step-unclosed}
+use Rattle.xdp_tool.specs.Plan.{opened, phases_from, plan, with_what}
 use Rattle.xdp_tool.specs.Queues.{queues_of}
 use Rattle.xdp_tool.specs.Walked.{no_past, past_after}
 use Rattle.xdp_tool.proofs.perform.work.Goals as goal

@@ -1,4 +1,4 @@
-use Rattle.std.proofs.Common.{◌≡◌, ◌≤◌, ◌+◌, ◌++◌, List, length, drop, IsTrue, None}
+use Rattle.std.proofs.Common.{◌≡◌, ◌≤◌, ◌++◌, List, drop, IsTrue, None}
 use Rattle.xdp_tool.proofs.Running.{Ran}
 use Rattle.xdp_tool.specs.Plan.{Phase, phases_from, plan}
 use Rattle.xdp_tool.specs.Queues.{queues_of}

@@ -1,5 +1,4 @@
-use Rattle.std.proofs.Common.{◌≡◌, ap, ◌∙◌, [], ◌∷◌}
-use Rattle.xdp_tool.specs.Headline.{trace_name}
+use Rattle.std.proofs.Common.{[], ◌∷◌}
 use Rattle.xdp_tool.specs.Named.{name_of}
 use Rattle.xdp_tool.proofs.OneTrace.{may-make, touches-both, traced-all}
 use Rattle.xdp_tool.proofs.tool.run.Goals as goal

@@ -1,4 +1,4 @@
-use Rattle.std.proofs.Common.{◌≡◌, ◌+◌, ◌++◌, [], ◌∷◌, map, add-one, append_assoc}
+use Rattle.std.proofs.Common.{◌++◌, [], ◌∷◌, add-one, append_assoc}
 use Rattle.std.proofs.lemmas.List.{map-append}
 use Rattle.xdp_tool.specs.Lanes.{idle}
 use Rattle.xdp_tool.specs.Queues.{Queue, queues_below}

@@ -1,4 +1,4 @@
-use Rattle.std.proofs.Common.{◌≡◌, List, ◌++◌, map}
+use Rattle.std.proofs.Common.{List, ◌++◌, map}
 use Rattle.xdp_tool.specs.Lanes.{ShowAll, idle}
 use Rattle.xdp_tool.specs.Queues.{Queue, queues_below}
 use Rattle.xdp_tool.proofs.walk.add_lanes.Given as goal

@@ -1,4 +1,4 @@
-use Rattle.std.proofs.Common.{◌≡◌, ◌+◌, ◌<◌, ◌≤◌, length, flat_map, take, ap, sym, ◌∙◌, add-one, arith}
+use Rattle.std.proofs.Common.{flat_map, ap, ◌∙◌, add-one, arith}
 use Rattle.std.proofs.lemmas.List.{take_all}
 use Rattle.xdp_state.specs.Sums.{tally_of}
 use Rattle.xdp_tool.specs.Lanes.{Progress}

@@ -1,4 +1,4 @@
-use Rattle.std.proofs.Common.{◌≡◌, ◌+◌, ◌<◌, ◌≤◌, ◌++◌, [], ◌∷◌, length, map, take, ap, sym, ◌∙◌, add-one, arith}
+use Rattle.std.proofs.Common.{◌<◌, length, map, ap, sym, ◌∙◌, add-one, arith}
 use Rattle.std.proofs.lemmas.List.{length-set, take_all}
 use Rattle.xdp_tool.specs.Lanes.{Progress}
 use Rattle.xdp_tool.proofs.Showing.{counts-finished, finished-all, show-finished, show-length}

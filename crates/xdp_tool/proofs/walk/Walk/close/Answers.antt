@@ -1,6 +1,6 @@
-use Rattle.std.proofs.Common.{◌≡◌, ◌≤◌, ◌||◌, map, ap, sym, ◌∙◌, arith, refl}
+use Rattle.std.proofs.Common.{◌||◌, ap, ◌∙◌, arith}
 use Rattle.std.specs.List.{list_any}
-use Rattle.xdp_tool.specs.Lanes.{ShowAll, lanes_text, needs_from, progress_from}
+use Rattle.xdp_tool.specs.Lanes.{ShowAll, lanes_text, progress_from}
 use Rattle.xdp_tool.specs.Plan.{is_refused, opened}
 use Rattle.xdp_tool.specs.Queues.{queues_of}
 use Rattle.xdp_tool.specs.Texts.{closing_text}

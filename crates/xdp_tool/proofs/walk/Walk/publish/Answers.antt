@@ -1,6 +1,5 @@
-use Rattle.std.proofs.Common.{◌≡◌, ◌+◌, ◌≤◌, true, ◌++◌, [], ◌∷◌, length, length-append, ap, sym, ◌∙◌, arith, refl}
+use Rattle.std.proofs.Common.{◌≡◌, ◌+◌, true, ◌++◌, [], ◌∷◌, length, length-append, ap, sym, ◌∙◌, arith, refl}
 use Rattle.std.proofs.lemmas.Result.{on_ok_weaker}
-use Rattle.script_text.specs.Texts.{outcome_text}
 use Rattle.script_text.specs.declared.outcome.Outcome.TheVariants as outcome
 use Rattle.xdp_state.specs.Book.{after, applied, takes}
 use Rattle.xdp_tool.specs.Plan.{Item, needs_of, with_change, with_item}

@@ -1,6 +1,5 @@
-use Rattle.std.proofs.Common.{◌≡◌, ◌++◌, append_assoc, ap, refl, ◌∙◌}
+use Rattle.std.proofs.Common.{◌++◌, append_assoc, ap, refl, ◌∙◌}
 use Rattle.std.proofs.lemmas.Result.{on_ok_weaker}
-use Rattle.script_text.specs.Table.{rules_text}
 use Rattle.script_text.specs.Texts.{outcome_text}
 use Rattle.script_text.specs.declared.outcome.Outcome.TheVariants as outcome
 use Rattle.xdp_state.specs.Sums.{tally_of}

@@ -1,4 +1,4 @@
-use Rattle.std.proofs.Common.{◌≡◌, ◌++◌, ap, sym, ◌∙◌, true}
+use Rattle.std.proofs.Common.{◌++◌, ap, sym, ◌∙◌, true}
 use Rattle.std.proofs.lemmas.Result.{IfOk-weaker}
 use Rattle.xdp_tool.specs.Lanes.{ShowAll, needs_from, progress_from, traces_of}
 use Rattle.xdp_tool.specs.Queues.{queues_of}
