@@ -1,9 +1,9 @@
 -- Numbers in places of bytes.
-use Rattle.std.proofs.Common.{◌≡◌, ℕ, zero, suc, ◌+◌, ◌*◌, ◌^◌, ◌%◌, ◌<◌, ◌≤◌, List, ◌++◌, ◌∷◌, length, take, drop, set, [], slice_index, slice_get, refl, sym, ap, ◌∙◌, arith, length-append, add-suc, add-zero, add-one}
+use Rattle.std.proofs.Common.{◌≡◌, ℕ, zero, suc, ◌+◌, ◌<◌, ◌≤◌, List, ◌++◌, ◌∷◌, length, take, drop, set, [], slice_index, refl, sym, ap, ◌∙◌, arith, length-append, add-suc, add-zero, add-one}
 use Rattle.std.proofs.lemmas.List.{get_or-drop, length-take-le, length-drop, set_split, drop-drop}
 use Rattle.std.specs.Int.{w64, to_le_bytes}
 use borrow.Rule.Slice.PartMut.{put_mid}
-use Rattle.byteorder.specs.Endian.{little_from, little_number, little_bytes}
+use Rattle.byteorder.specs.Endian.{little_from, little_number}
 use Rattle.byteorder.specs.Numbers.{length-bytes_low_first}
 use Rattle.bpf_insn.specs.declared.operation.Size.{Size}
 use Rattle.bpf_insn.specs.declared.operation.Size.TheVariants.{Byte, Half, Word, Double}

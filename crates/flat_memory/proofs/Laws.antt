@@ -1,17 +1,16 @@
 -- What is true of memory.
 use mathlib.Core.Path.{fun_ext}
-use Rattle.std.proofs.Common.{◌≡◌, ◌≢◌, ℕ, zero, suc, ◌+◌, ◌-◌, ◌*◌, ◌/◌, ◌%◌, ◌^◌, ◌<◌, ◌≤◌, Bool, true, false, nat_le, nat_lt, ◌&&◌, List, [], ◌++◌, length, take, drop, get_or, slice_index, slice_get, Option, Some, None, unwrap_or, refl, sym, ap, ◌∙◌, arith, ◌⊎◌, inl, inr, add-zero, add-suc, suc-add}
+use Rattle.std.proofs.Common.{◌≡◌, ℕ, zero, suc, ◌+◌, ◌-◌, ◌/◌, ◌%◌, ◌^◌, ◌<◌, ◌≤◌, Bool, true, false, nat_le, List, [], ◌++◌, length, take, drop, get_or, slice_index, slice_get, Option, Some, None, unwrap_or, refl, ap, ◌∙◌, arith, ◌⊎◌, inl, inr, add-zero, add-suc, suc-add}
 use Rattle.std.proofs.lemmas.Bool.{cases_lt}
 use Rattle.std.proofs.lemmas.List.{get_or-append_right, get_or_append_left, get_or-take, get_or-drop, length-take-le}
-use Rattle.std.proofs.lemmas.Grind.{common_steps}
 use Rattle.std.proofs.lemmas.Bool.Decides.{nat_tests}
 use Rattle.std.proofs.lemmas.Option.{gets}
 use Rattle.std.proofs.lemmas.List.{append-nil}
 use Rattle.std.proofs.Math.Nat.{div-one}
 use Rattle.std.specs.Option.{option_or}
-use Rattle.byteorder.specs.Endian.{little_from, little_bytes}
+use Rattle.byteorder.specs.Endian.{little_bytes}
 use Rattle.byteorder.specs.Numbers.{length-bytes_low_first, little_from-bytes}
-use Rattle.flat_memory.specs.Memory.{Memory, nothing, masked, block, overlaid, written, without, number_at, is_within}
+use Rattle.flat_memory.specs.Memory.{Memory, masked, block, overlaid, written, number_at}
 use Rattle.flat_memory.specs.Numbers.{number_in, with_bytes}
 use Rattle.flat_memory.proofs.Bytes.{length-with_bytes}
 

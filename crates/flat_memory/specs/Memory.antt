@@ -1,5 +1,5 @@
 -- Memory is a function from addresses to bytes, with None where there is no byte.
-use Rattle.std.specs.Prelude.{ℕ, zero, suc, ◌+◌, ◌-◌, ◌*◌, Bool, ◌&&◌, nat_le, nat_lt, if◌then◌else◌, List, length, slice_get, Option, None, unwrap_or}
+use Rattle.std.specs.Prelude.{ℕ, zero, suc, ◌+◌, ◌-◌, ◌*◌, Bool, ◌&&◌, nat_le, nat_lt, if◌then◌else◌, List, slice_get, Option, None, unwrap_or}
 use Rattle.std.specs.Option.{option_or}
 
 abbrev pub Memory : Type 0

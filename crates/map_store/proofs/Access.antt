@@ -1,6 +1,6 @@
 -- Reads and writes at an offset among a map's values.
-use Rattle.std.proofs.Common.{◌≡◌, ℕ, ◌+◌, ◌*◌, ◌/◌, ◌%◌, ◌<◌, ◌≤◌, ◌⊎◌, inl, inr, Bool, true, false, nat_le, not, ◌&&◌, List, set, length, get_or, slice_index, slice_get, Option, Some, None, unwrap_or, refl, sym, ap, ◌∙◌, arith}
-use Rattle.std.proofs.lemmas.Bool.{leb-true, cases_lt, cases_Bool, false≢true}
+use Rattle.std.proofs.Common.{◌≡◌, ℕ, ◌+◌, ◌*◌, ◌/◌, ◌%◌, ◌<◌, ◌≤◌, ◌⊎◌, inl, inr, Bool, true, false, nat_le, nat_lt, not, ◌&&◌, if◌then◌else◌, List, set, length, get_or, slice_index, slice_get, Option, Some, None, unwrap_or, refl, sym, ap, ◌∙◌, arith}
+use Rattle.std.proofs.lemmas.Bool.{leb-true, cases_lt, cases_Bool, false≢true, lt-ltb, le-ltb}
 use Rattle.bpf_insn.specs.declared.operation.Size.{Size}
 use Rattle.std.proofs.lemmas.List.{get_or_past}
 use Rattle.std.proofs.lemmas.Nat.{row_fits, div-mul-add, mod-mul-add, div-add-mod', mod_below}
@@ -149,3 +149,31 @@ write-shared map offset n shared = rw (shared, and-false (can_read_in map offset
 pub write-own : (map : Map) (offset n : ℕ) → is_shared map.kind ≡ false → can_write_in map offset n ≡ can_read_in map offset n
 unfolding can_write_in
 write-own map offset n own = rw (own, and-true (can_read_in map offset n)) refl
+
+-- the byte that an offset shows: none past the slots or in an empty one, and of a taken one those of its value
+pub values_in-past : (s : Inside) (offset : ℕ) → HasBuffers s → length s.taken.items ≤ offset / s.stride → values_in (map_of s) offset ≡ None
+unfolding values_in
+values_in-past s offset ok past =
+    let long : length (map_of s).slots ≡ length s.taken.items = length-slots_in s.key_size s.value_size s.keys.items s.values.items s.taken.items in
+    let beyond : length (map_of s).slots ≤ offset / rounded s.value_size = rw (← ok.stride) (omega arith) in
+    rw (get_or_past (map_of s).slots (offset / rounded s.value_size) None beyond) refl
+
+pub values_in-empty : (s : Inside) (offset place byte : ℕ) → HasBuffers s → IsSpot s offset place byte → is_taken s.taken.items place ≡ false → values_in (map_of s) offset ≡ None
+unfolding values_in
+values_in-empty s offset place byte ok is unseen = rw (slot_at-is s offset place byte ok is, slot_in-empty s.key_size s.value_size s.keys.items s.values.items s.taken.items place unseen) refl
+
+byte_past : (s : Inside) (offset place byte : ℕ) → HasBuffers s → IsSpot s offset place byte → is_taken s.taken.items place ≡ true → s.value_size ≤ byte → values_in (map_of s) offset ≡ None
+unfolding values_in
+byte_past s offset place byte ok is seen above =
+    let lv : length (value_at s place) ≡ s.value_size = length-value_at s place ok is.room in
+    let got : slice_get (value_at s place) byte ≡ None = grind (arith, gets) in
+    rw (slot_at-is s offset place byte ok is, byte_at-is s offset place byte ok is, taken_slot s place seen) got
+
+pub values_in-taken : (s : Inside) (offset place byte : ℕ) → HasBuffers s → IsSpot s offset place byte → is_taken s.taken.items place ≡ true → values_in (map_of s) offset ≡ (if nat_lt byte s.value_size then slice_get s.values.items offset else None)
+values_in-taken s offset place byte ok is seen = elim (cases_lt byte s.value_size) [
+  | inl small ↦
+      let within : offset < length s.values.items = let a : offset ≡ place * s.stride + byte = is.sum in let b : place * s.stride + s.stride ≤ length s.values.items = is.room.value in let d : byte < s.stride = is.small in omega arith in
+      let got : slice_get s.values.items offset ≡ Some (slice_index s.values.items offset) = grind (arith, gets) in
+      rw (lt-ltb byte s.value_size small) (byte_read s offset place byte ok is seen small ∙ sym got)
+  | inr above ↦ rw (le-ltb byte s.value_size above) (byte_past s offset place byte ok is seen above)
+]

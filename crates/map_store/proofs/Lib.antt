@@ -9,3 +9,4 @@ pub mod Start
 pub mod Regions
 pub mod Access
 pub mod Ends
+pub mod ValueMemory

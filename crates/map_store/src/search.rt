@@ -32,9 +32,9 @@ fn is_at(keys: &[u8], start: usize, key: &[u8]) -> bool
 pub(crate) fn first_empty(taken: &[bool]) -> Option<usize>
     ensures { IsFirst (λ place. not (is_taken taken.now place)) (length taken.now) result }
 {
-    for place in 0..taken.len() {
-        if !taken[place] {
-            return Some(place);
+    for slot in 0..taken.len() {
+        if !taken[slot] {
+            return Some(slot);
         }
     }
     None

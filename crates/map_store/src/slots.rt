@@ -1,6 +1,7 @@
 ghost use Rattle.std.specs.Prelude.{◌≡◌, ◌+◌, ◌*◌, ◌<◌, ◌≤◌, ℕ, List, true, false, nat_eq, length, slice_index_or, None, IfSome, IfOk};
 ghost use Rattle.std.specs.Cmp.Lexicographic.{pointwise};
 ghost use Rattle.byteorder.specs.Endian.{little_bytes};
+ghost use Rattle.flat_memory.specs.Memory.{written};
 ghost use Rattle.flat_memory.specs.Numbers.{size_of, stored};
 ghost use Rattle.map_store.specs.Initial.{IsMakeable, first_map};
 ghost use Rattle.map_store.specs.Slots.{has_key, place_of, least_empty, with_entry, emptied, is_shared, is_array};
@@ -41,7 +42,7 @@ impl Model for Slots {
 
 impl Slots {
     ghost use Rattle.map_store.specs.Answers.{update_end, updated, delete_end, deleted};
-    ghost use Rattle.map_store.specs.Values.{can_read_in, load_in, can_write_in, map_written};
+    ghost use Rattle.map_store.specs.Values.{can_read_in, load_in, can_write_in, map_written, values_in};
     ghost use Rattle.map_store.specs.Spec.{rounded, slot_size};
 
     /// The slots of a map as they are at first.
@@ -236,6 +237,8 @@ impl Slots {
     pub(crate) fn store(&mut self, offset: u32, size: Size, value: u64) -> bool
         ensures answer { result ≡ can_write_in self.old offset (size_of size) }
         ensures done { result ≡ true → self.new ≡ map_written self.old offset (stored size value) }
+        ensures memory { result ≡ true → values_in self.new ≡ written (values_in self.old) offset (stored size value) }
+        ensures within { result ≡ true → offset + size_of size ≤ 4194304 }
         ensures refused { result ≡ false → self.new ≡ self.old }
     {
         if self.is_shared() {

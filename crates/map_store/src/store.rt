@@ -63,7 +63,7 @@ impl Model for Store {
 
 impl Store {
     ghost use Rattle.map_store.specs.Answers.{update_end, updated, delete_end, deleted};
-    ghost use Rattle.map_store.specs.Values.{lookup_of, load_of, can_write, maps_written};
+    ghost use Rattle.map_store.specs.Values.{lookup_of, load_of, can_write, maps_written, values};
 
     /// The maps of these specs as they are at first.
     pub fn new(alloc: Global, specs: &[MapSpec]) -> Result<Self, OutOfMemory>
@@ -130,6 +130,7 @@ impl Store {
     pub fn store(&mut self, address: u64, size: Size, value: u64) -> bool
         ensures answer { result ≡ can_write self.old address (size_of size) }
         ensures done { result ≡ true → self.new ≡ maps_written self.old address (stored size value) }
+        ensures memory { result ≡ true → values self.new ≡ written (values self.old) address (stored size value) }
         ensures refused { result ≡ false → self.new ≡ self.old }
     {
         let Some(offset) = address.checked_sub(VALUES) else {

@@ -33,77 +33,8 @@ fn names_the_first_broken_rule(rt: HostRuntime) -> Result<(), Fail> {
     Ok(())
 }
 
-/// A spec without initial content, with keys of 4 bytes.
-fn spec_of(rt: &HostRuntime, kind: MapKind, value_size: u32, max_entries: u32) -> MapSpec {
-    MapSpec {
-        kind,
-        key_size: 4,
-        value_size,
-        max_entries,
-        initial: Bytes::new(rt.alloc()),
-    }
-}
-
-const ONE: [u8; 4] = [1, 0, 0, 0];
-
-const TWO: [u8; 4] = [2, 0, 0, 0];
-
-const THREE: [u8; 4] = [3, 0, 0, 0];
-
 #[test]
-fn keeps_two_keys(rt: HostRuntime) -> Result<(), Fail> {
-    let specs = [spec_of(&rt, MapKind::PercpuHash, 4, 2)];
-    let mut store = Store::new(rt.alloc(), &specs)?;
-    assert_eq!(rt; store.update(0, &ONE, &[1; 4], 0), UpdateEnd::Done);
-    assert_eq!(rt; store.update(0, &TWO, &[2; 4], 0), UpdateEnd::Done);
-    assert_eq!(rt; store.lookup(0, &ONE), Some(0x4000_0000));
-    assert_eq!(rt; store.lookup(0, &TWO), Some(0x4000_0008));
-    assert_eq!(rt; store.update(0, &THREE, &[3; 4], 0), UpdateEnd::NoRoom);
-    assert_eq!(rt; store.delete(0, &ONE), DeleteEnd::Done);
-    assert_eq!(rt; store.update(0, &THREE, &[3; 4], 0), UpdateEnd::Done);
-    assert_eq!(rt; store.lookup(0, &THREE), Some(0x4000_0000));
-    assert_eq!(rt; store.delete(0, &ONE), DeleteEnd::Missing);
-    Ok(())
-}
-
-#[test]
-fn answers_in_order(rt: HostRuntime) -> Result<(), Fail> {
-    let specs = [
-        spec_of(&rt, MapKind::Array, 4, 2),
-        spec_of(&rt, MapKind::PercpuArray, 4, 2),
-        spec_of(&rt, MapKind::PercpuHash, 4, 1),
-    ];
-    let mut store = Store::new(rt.alloc(), &specs)?;
-    // map, key, flags, answer
-    let updates = [
-        (0, ONE, 3, UpdateEnd::ReadOnly),
-        (1, TWO, 3, UpdateEnd::BadFlag),
-        (1, TWO, 1, UpdateEnd::NoRoom),
-        (1, ONE, 1, UpdateEnd::Exists),
-        (1, ONE, 2, UpdateEnd::Done),
-        (2, ONE, 2, UpdateEnd::Missing),
-        (2, ONE, 1, UpdateEnd::Done),
-        (2, ONE, 1, UpdateEnd::Exists),
-        (2, ONE, 2, UpdateEnd::Done),
-        (2, TWO, 2, UpdateEnd::Missing),
-        (2, TWO, 0, UpdateEnd::NoRoom),
-    ];
-    for (map, key, flags, answer) in updates {
-        assert_eq!(rt; store.update(map, &key, &[7; 4], flags), answer);
-    }
-    let deletes = [
-        (0, DeleteEnd::ReadOnly),
-        (1, DeleteEnd::Fixed),
-        (2, DeleteEnd::Done),
-    ];
-    for (map, answer) in deletes {
-        assert_eq!(rt; store.delete(map, &ONE), answer);
-    }
-    assert_eq!(rt; store.delete(2, &ONE), DeleteEnd::Missing);
-    Ok(())
-}
-
-#[test]
+#[tactic(auto, unfolding(crate::specs::Spec::spec_rule, crate::specs::Spec::rounded))]
 fn moves_numbers_in_values(rt: HostRuntime) -> Result<(), Fail> {
     let mut initial = Bytes::new(rt.alloc());
     initial.append(&[1, 2, 3, 4, 5])?;
@@ -114,7 +45,14 @@ fn moves_numbers_in_values(rt: HostRuntime) -> Result<(), Fail> {
         max_entries: 1,
         initial,
     };
-    let specs = [constants, spec_of(&rt, MapKind::PercpuArray, 4, 2)];
+    let counters = MapSpec {
+        kind: MapKind::PercpuArray,
+        key_size: 4,
+        value_size: 4,
+        max_entries: 2,
+        initial: Bytes::new(rt.alloc()),
+    };
+    let specs = [constants, counters];
     let mut store = Store::new(rt.alloc(), &specs)?;
     // address, size, number
     let loads = [

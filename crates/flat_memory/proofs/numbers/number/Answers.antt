@@ -1,7 +1,5 @@
-use Rattle.std.proofs.Common.{rules, ◌≡◌, ◌+◌, ◌≤◌, length, ℕ, ◌-◌, slice_index_or, take, drop, ◌∙◌}
+use Rattle.std.proofs.Common.{◌∙◌}
 use Rattle.std.proofs.lemmas.List.{take_rest}
-use Rattle.byteorder.specs.Endian.{little_number}
-use Rattle.flat_memory.specs.Numbers.{size_of, number_in}
 use Rattle.flat_memory.proofs.Bytes.{byte_number, little_number-drop}
 use Rattle.flat_memory.proofs.numbers.number.Goals as goal
 

@@ -1,4 +1,4 @@
-use Rattle.std.proofs.Common.{rules, ◌≡◌, ◌+◌, ◌-◌, ◌<◌, [], ◌∷◌, length, ap, sym, ◌∙◌, arith}
+use Rattle.std.proofs.Common.{rules, ◌≡◌, ◌+◌, ◌-◌, ◌<◌, length, ap, sym, arith}
 use Rattle.flat_memory.specs.Numbers.{size_of}
 use Rattle.flat_memory.proofs.Bytes.{byte_written, low_byte, number_written}
 use Rattle.flat_memory.proofs.numbers.put_number.Goals as goal
