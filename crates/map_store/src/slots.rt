@@ -64,6 +64,18 @@ impl Slots {
         })
     }
 
+    pub(crate) fn key_size(&self) -> usize
+        ensures { result ≡ self.now.key_size }
+    {
+        self.key_size
+    }
+
+    pub(crate) fn value_size(&self) -> usize
+        ensures { result ≡ self.now.value_size }
+    {
+        self.value_size
+    }
+
     /// The place of a key.
     pub(crate) fn place_of(&self, key: &[u8]) -> Option<usize>
         requires { length key.now ≡ self.now.key_size }

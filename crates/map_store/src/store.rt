@@ -77,6 +77,29 @@ impl Store {
         Ok(Store { maps })
     }
 
+    /// How many maps there are.
+    pub fn len(&self) -> u32
+        ensures { result ≡ length self.now }
+    {
+        self.maps.len() as u32
+    }
+
+    /// The size of a map's keys, in bytes.
+    pub fn key_size(&self, map: u32) -> usize
+        requires { map < length self.now }
+        ensures { result ≡ (map_at self.now map).key_size }
+    {
+        self.maps[map as usize].key_size()
+    }
+
+    /// The size of a map's values, in bytes.
+    pub fn value_size(&self, map: u32) -> usize
+        requires { map < length self.now }
+        ensures { result ≡ (map_at self.now map).value_size }
+    {
+        self.maps[map as usize].value_size()
+    }
+
     /// The address of the value of a key, if the key is there. An array has the keys 0 to its size less 1, 4 bytes each,
     /// the lowest first.
     pub fn lookup(&self, map: u32, key: &[u8]) -> Option<u32>

@@ -1,6 +1,10 @@
+ghost use Rattle.std.specs.Prelude.{◌≡◌, ◌<◌, [], length, IsTrue};
+ghost use Rattle.map_store.specs.Slots.{map_at};
+
 use super::*;
 use bpf_insn::Size;
 use lists::Bytes;
+use std::alloc::Global;
 use std::test::Fail;
 
 #[test]
@@ -72,5 +76,105 @@ fn moves_numbers_in_values(rt: HostRuntime) -> Result<(), Fail> {
     assert!(rt; !store.store(0x4000_0000, Size::Byte, 9));
     assert!(rt; store.store(0x4100_000a, Size::Half, 0x1_0203));
     assert_eq!(rt; store.load(0x4100_0008, Size::Word), Some(0x0203_0000));
+    Ok(())
+}
+
+/// A map with keys of 4 bytes.
+fn spec_of(alloc: Global, kind: MapKind, value_size: u32, max_entries: u32) -> MapSpec
+    ensures { result ≡ record {
+      kind = kind; key_size = 4; value_size = value_size; max_entries = max_entries; initial = [];
+    } }
+{
+    MapSpec {
+        kind,
+        key_size: 4,
+        value_size,
+        max_entries,
+        initial: Bytes::new(alloc),
+    }
+}
+
+/// Whether the map is there and takes a key and a value of 4 bytes.
+fn takes_words(store: &Store, map: u32) -> bool
+    ensures { IsTrue result → (map < length store.now) × ((map_at store.now map).key_size ≡ 4) × ((map_at store.now map).value_size ≡ 4) }
+{
+    map < store.len() && store.key_size(map) == 4 && store.value_size(map) == 4
+}
+
+fn update(store: &mut Store, map: u32, key: u8, flags: u64) -> Option<UpdateEnd> {
+    if !takes_words(store, map) {
+        return None;
+    }
+    Some(store.update(map, &[key, 0, 0, 0], &[7; 4], flags))
+}
+
+fn delete(store: &mut Store, map: u32, key: u8) -> Option<DeleteEnd> {
+    if !takes_words(store, map) {
+        return None;
+    }
+    Some(store.delete(map, &[key, 0, 0, 0]))
+}
+
+fn lookup(store: &Store, map: u32, key: u8) -> Option<u32> {
+    if !takes_words(store, map) {
+        return None;
+    }
+    store.lookup(map, &[key, 0, 0, 0])
+}
+
+#[test]
+#[tactic(auto, unfolding(crate::specs::Spec::spec_rule, crate::specs::Spec::rounded))]
+fn keeps_two_keys(rt: HostRuntime) -> Result<(), Fail> {
+    let specs = [spec_of(rt.alloc(), MapKind::PercpuHash, 4, 2)];
+    let mut store = Store::new(rt.alloc(), &specs)?;
+    assert!(rt; update(&mut store, 0, 1, 0) == Some(UpdateEnd::Done));
+    assert!(rt; update(&mut store, 0, 2, 0) == Some(UpdateEnd::Done));
+    assert!(rt; lookup(&store, 0, 1) == Some(0x4000_0000));
+    assert!(rt; lookup(&store, 0, 2) == Some(0x4000_0008));
+    assert!(rt; update(&mut store, 0, 3, 0) == Some(UpdateEnd::NoRoom));
+    assert!(rt; delete(&mut store, 0, 1) == Some(DeleteEnd::Done));
+    assert!(rt; update(&mut store, 0, 3, 0) == Some(UpdateEnd::Done));
+    assert!(rt; lookup(&store, 0, 3) == Some(0x4000_0000));
+    assert!(rt; delete(&mut store, 0, 1) == Some(DeleteEnd::Missing));
+    Ok(())
+}
+
+#[test]
+#[tactic(auto, unfolding(crate::specs::Spec::spec_rule, crate::specs::Spec::rounded))]
+fn answers_in_order(rt: HostRuntime) -> Result<(), Fail> {
+    let specs = [
+        spec_of(rt.alloc(), MapKind::Array, 4, 2),
+        spec_of(rt.alloc(), MapKind::PercpuArray, 4, 2),
+        spec_of(rt.alloc(), MapKind::PercpuHash, 4, 1),
+    ];
+    let mut store = Store::new(rt.alloc(), &specs)?;
+    // map, key, flags, answer
+    let updates = [
+        (0, 1, 3, UpdateEnd::ReadOnly),
+        (1, 2, 3, UpdateEnd::BadFlag),
+        (1, 2, 1, UpdateEnd::NoRoom),
+        (1, 1, 1, UpdateEnd::Exists),
+        (1, 1, 2, UpdateEnd::Done),
+        (2, 1, 2, UpdateEnd::Missing),
+        (2, 1, 1, UpdateEnd::Done),
+        (2, 1, 1, UpdateEnd::Exists),
+        (2, 1, 2, UpdateEnd::Done),
+        (2, 2, 2, UpdateEnd::Missing),
+        (2, 2, 0, UpdateEnd::NoRoom),
+    ];
+    for (map, key, flags, answer) in updates {
+        assert!(rt; update(&mut store, map, key, flags) == Some(answer));
+    }
+    assert!(rt; lookup(&store, 1, 1) == Some(0x4100_0008));
+    assert!(rt; lookup(&store, 1, 2).is_none());
+    let deletes = [
+        (0, DeleteEnd::ReadOnly),
+        (1, DeleteEnd::Fixed),
+        (2, DeleteEnd::Done),
+        (2, DeleteEnd::Missing),
+    ];
+    for (map, answer) in deletes {
+        assert!(rt; delete(&mut store, map, 1) == Some(answer));
+    }
     Ok(())
 }
