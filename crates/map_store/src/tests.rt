@@ -74,3 +74,46 @@ fn moves_numbers_in_values(rt: HostRuntime) -> Result<(), Fail> {
     assert_eq!(rt; store.load(0x4100_0008, Size::Word), Some(0x0203_0000));
     Ok(())
 }
+
+#[test]
+#[tactic(auto, unfolding(crate::specs::Spec::spec_rule, crate::specs::Spec::rounded, crate::specs::Initial::first_map))]
+fn finds_and_puts_keys(rt: HostRuntime) -> Result<(), Fail> {
+    let array = MapSpec {
+        kind: MapKind::PercpuArray,
+        key_size: 4,
+        value_size: 4,
+        max_entries: 2,
+        initial: Bytes::new(rt.alloc()),
+    };
+    let hash = MapSpec {
+        kind: MapKind::PercpuHash,
+        key_size: 4,
+        value_size: 4,
+        max_entries: 2,
+        initial: Bytes::new(rt.alloc()),
+    };
+    let specs = [array, hash];
+    let mut store = Store::new(rt.alloc(), &specs)?;
+    assert_eq!(rt; store.lookup(0, &[1, 0, 0, 0]), Some(0x4000_0008));
+    assert_eq!(rt; store.lookup(0, &[2, 0, 0, 0]), None);
+    assert_eq!(rt; store.lookup(1, &[1, 0, 0, 0]), None);
+    assert_eq!(rt; store.update(1, &[1, 0, 0, 0], &[7; 4], 0), UpdateEnd::Done);
+    assert_eq!(rt; store.load(0x4100_0000, Size::Word), Some(0x0707_0707));
+    Ok(())
+}
+
+#[test]
+#[tactic(auto, unfolding(crate::specs::Spec::spec_rule, crate::specs::Spec::rounded, crate::specs::Initial::first_map))]
+fn misses_a_key_that_is_not_there(rt: HostRuntime) -> Result<(), Fail> {
+    let hash = MapSpec {
+        kind: MapKind::PercpuHash,
+        key_size: 1,
+        value_size: 4,
+        max_entries: 2,
+        initial: Bytes::new(rt.alloc()),
+    };
+    let specs = [hash];
+    let mut store = Store::new(rt.alloc(), &specs)?;
+    assert_eq!(rt; store.delete(0, &[1]), DeleteEnd::Missing);
+    Ok(())
+}
