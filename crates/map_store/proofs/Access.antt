@@ -1,5 +1,5 @@
 -- Reads and writes at an offset among a map's values.
-use Rattle.std.proofs.Common.{◌≡◌, ℕ, ◌+◌, ◌*◌, ◌/◌, ◌%◌, ◌<◌, ◌≤◌, ◌⊎◌, inl, inr, Bool, true, false, nat_le, nat_lt, not, ◌&&◌, if◌then◌else◌, List, set, length, get_or, slice_index, slice_get, Option, Some, None, unwrap_or, refl, sym, ap, ◌∙◌, arith}
+use Rattle.std.proofs.Common.{◌≡◌, ℕ, ◌+◌, ◌*◌, ◌/◌, ◌%◌, ◌<◌, ◌≤◌, inl, inr, Bool, true, false, nat_le, nat_lt, ◌&&◌, if◌then◌else◌, List, length, slice_index, slice_get, Option, Some, None, unwrap_or, refl, sym, ap, ◌∙◌, arith}
 use Rattle.std.proofs.lemmas.Bool.{leb-true, cases_lt, cases_Bool, false≢true, lt-ltb, le-ltb}
 use Rattle.bpf_insn.specs.declared.operation.Size.{Size}
 use Rattle.std.proofs.lemmas.List.{get_or_past}
@@ -9,8 +9,8 @@ use Rattle.flat_memory.specs.Memory.{number_at}
 use Rattle.flat_memory.specs.Numbers.{number_in, with_bytes, size_of}
 use Rattle.flat_memory.proofs.Laws.{number_at-bytes}
 use Rattle.map_store.specs.Spec.{rounded}
-use Rattle.map_store.specs.Slots.{Map, Entry, is_shared}
-use Rattle.map_store.specs.Values.{slot_at, byte_at, byte_in, has_bytes, values_in, can_read_in, load_in, can_write_in, map_written, slot_written}
+use Rattle.map_store.specs.Slots.{Map, is_shared}
+use Rattle.map_store.specs.Values.{slot_at, byte_at, values_in, can_read_in, load_in, can_write_in, map_written}
 use Rattle.map_store.specs.SlotsView.{part, is_taken, slot_in, slots_in, map_of, HasBuffers}
 use Rattle.map_store.specs.declared.slots.Slots.TheInside.{Inside}
 use Rattle.map_store.proofs.Parts.{length-part, index-part}

@@ -1,10 +1,10 @@
 -- A map after a write to its buffers.
-use Rattle.std.proofs.Common.{◌≡◌, ℕ, ◌+◌, ◌*◌, ◌<◌, ◌≤◌, Bool, true, false, List, set, length, get_or, Option, Some, None, Vec, refl, sym, ap, ◌∙◌, arith}
+use Rattle.std.proofs.Common.{◌≡◌, ℕ, ◌+◌, ◌*◌, ◌≤◌, true, false, List, set, length, get_or, Some, None, Vec, ap, ◌∙◌}
 use Rattle.std.specs.Vec.{with_items}
 use Rattle.flat_memory.specs.Numbers.{with_bytes}
 use Rattle.flat_memory.proofs.Bytes.{length-with_bytes}
 use Rattle.map_store.specs.Spec.{rounded}
-use Rattle.map_store.specs.Slots.{Map, Entry, has_key}
+use Rattle.map_store.specs.Slots.{has_key}
 use Rattle.map_store.specs.Values.{slot_written}
 use Rattle.map_store.specs.SlotsView.{slots_in, map_of, HasBuffers}
 use Rattle.map_store.specs.declared.slots.Slots.TheInside.{Inside}

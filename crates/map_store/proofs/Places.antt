@@ -1,10 +1,10 @@
 -- The places that the code finds in its buffers are those of the map.
-use Rattle.std.proofs.Common.{◌≡◌, ℕ, ◌*◌, ◌<◌, ◌≤◌, ◌⊎◌, inl, inr, Bool, true, false, not, nat_eq, ◌&&◌, List, length, get_or, position, Option, Some, None, IfSome, refl, sym, ap, ◌∙◌, arith}
+use Rattle.std.proofs.Common.{◌≡◌, ℕ, ◌<◌, inl, inr, Bool, true, not, nat_eq, List, length, position, Option, Some, None, IfSome, refl, sym}
 use Rattle.std.proofs.lemmas.Bool.{cases_Bool}
 use Rattle.std.specs.Cmp.Lexicographic.{pointwise}
 use Rattle.byteorder.specs.Endian.{little_bytes}
-use Rattle.map_store.specs.Slots.{Map, Entry, has_key, is_empty, is_array, place_of, least_empty}
-use Rattle.map_store.specs.SlotsView.{part, is_taken, slot_in, slots_in, has_key_at, IsFirst, IsFirstPlace, map_of, HasBuffers}
+use Rattle.map_store.specs.Slots.{Map, Entry, has_key, is_empty, is_array}
+use Rattle.map_store.specs.SlotsView.{part, is_taken, slot_in, slots_in, has_key_at, IsFirst, map_of, HasBuffers}
 use Rattle.map_store.specs.declared.slots.Slots.TheInside.{Inside}
 use Rattle.map_store.proofs.SlotLists.{length-slots_in, position-slots_in}
 

@@ -1,8 +1,8 @@
 -- The maps by addresses.
-use Rattle.std.proofs.Common.{◌≡◌, ℕ, ◌+◌, ◌-◌, ◌*◌, ◌/◌, ◌%◌, ◌<◌, ◌≤◌, ◌⊎◌, inl, inr, Bool, true, false, nat_le, not, ◌&&◌, List, [], set, length, get_or, Option, Some, None, refl, sym, ap, ◌∙◌, arith}
+use Rattle.std.proofs.Common.{◌≡◌, ℕ, ◌+◌, ◌*◌, ◌<◌, ◌≤◌, inl, inr, Bool, true, false, nat_le, ◌&&◌, List, [], set, length, get_or, Some, None, refl, sym, ap, ◌∙◌, arith}
 use Rattle.std.proofs.lemmas.Bool.{cases_Bool, le-leb, lt-leb}
 use Rattle.std.proofs.lemmas.List.{get_or_read, get_or_past}
-use Rattle.flat_memory.specs.Memory.{Memory, number_at}
+use Rattle.flat_memory.specs.Memory.{number_at}
 use Rattle.flat_memory.specs.Numbers.{size_of}
 use Rattle.flat_memory.proofs.Laws.{number_at-same}
 use Rattle.bpf_insn.specs.declared.operation.Size.{Size}

@@ -1,12 +1,12 @@
 -- Slots as lists made of buffers.
-use Rattle.std.proofs.Common.{◌≡◌, ◌≢◌, ℕ, ◌+◌, ◌*◌, ◌<◌, ◌≤◌, ◌⊎◌, inl, inr, Bool, true, false, List, map, set, length, get_or, slice_get, position, Option, Some, None, MatchOption, refl, sym, ap, ◌∙◌, arith, rules}
-use Rattle.std.proofs.lemmas.Bool.{cases_lt, cases_eq, lt-ltb, le-ltb}
-use Rattle.std.proofs.lemmas.List.{length-set, get_or-set_same, get_or-set_other, ext_get_or, get_or_default}
+use Rattle.std.proofs.Common.{◌≡◌, ℕ, ◌<◌, inl, inr, Bool, true, false, List, set, length, get_or, position, Option, Some, None, refl, sym, ap, ◌∙◌, arith}
+use Rattle.std.proofs.lemmas.Bool.{cases_eq, lt-ltb, le-ltb}
+use Rattle.std.proofs.lemmas.List.{length-set, get_or-set_same, get_or-set_other, ext_get_or}
 use Rattle.std.proofs.lemmas.List.FromFn.{length-map-range_with_len, get_or-map-range_with_len}
 use Rattle.std.proofs.lemmas.List.Sums.{position_or_len_is}
-use Rattle.std.specs.List.{range_with_len, position_or_len}
-use Rattle.map_store.specs.Slots.{Entry, has_key, is_empty}
-use Rattle.map_store.specs.SlotsView.{slot_in, slots_in, IsFirst, IsFirstPlace}
+use Rattle.std.specs.List.{position_or_len}
+use Rattle.map_store.specs.Slots.{Entry}
+use Rattle.map_store.specs.SlotsView.{slot_in, slots_in, IsFirst}
 
 pub length-slots_in : (key_size value_size : ℕ) (keys values : List ℕ) (taken : List Bool) → length (slots_in key_size value_size keys values taken) ≡ length taken
 unfolding slots_in

@@ -1,8 +1,8 @@
 -- What the invariant of the buffers gives at one place.
-use Rattle.std.proofs.Common.{◌≡◌, ℕ, ◌+◌, ◌*◌, ◌<◌, ◌≤◌, ◌^◌, List, length, arith, Fits, w32, w64}
+use Rattle.std.proofs.Common.{◌≡◌, ℕ, ◌+◌, ◌*◌, ◌<◌, ◌≤◌, length, arith}
 use Rattle.std.proofs.lemmas.Nat.{row_fits}
 use Rattle.map_store.specs.Slots.{Map}
-use Rattle.map_store.specs.SlotsView.{map_of, slots_in, HasBuffers}
+use Rattle.map_store.specs.SlotsView.{map_of, HasBuffers}
 use Rattle.map_store.specs.declared.slots.Slots.TheInside.{Inside}
 use Rattle.map_store.proofs.SlotLists.{length-slots_in}
 

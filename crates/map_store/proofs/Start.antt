@@ -1,23 +1,22 @@
 -- What buffers hold at first.
-use Rattle.std.proofs.Common.{◌≡◌, ℕ, zero, suc, ◌+◌, ◌-◌, ◌*◌, ◌<◌, ◌≤◌, ◌⊎◌, inl, inr, Bool, true, false, not, nat_le, ◌&&◌, ◌==◌, List, [], ◌∷◌, ◌++◌, take, drop, map, find, replicate, length, get_or, slice_index, Option, Some, None, cond, refl, sym, ap, ◌∙◌, arith}
-use Rattle.std.proofs.lemmas.Bool.{cases_lt, cases_Bool, and_parts, leb-true, eqb-true, not-false, false≢true}
+use Rattle.std.proofs.Common.{◌≡◌, ℕ, ◌+◌, ◌-◌, ◌*◌, ◌<◌, ◌≤◌, inl, inr, Bool, true, false, not, nat_le, List, [], ◌∷◌, ◌++◌, map, find, replicate, length, get_or, Option, Some, None, refl, sym, ap, ◌∙◌, arith}
+use Rattle.std.proofs.lemmas.Bool.{cases_lt, cases_Bool, and_parts, leb-true, eqb-true, not-false}
 use Rattle.std.proofs.lemmas.Grind.{same_number_lists}
-use Rattle.std.proofs.lemmas.List.{append-nil, get_or_append_left, get_or-append_right, get_or-replicate, length-replicate, length-append, ext_get_or}
+use Rattle.std.proofs.lemmas.List.{get_or_append_left, get_or-append_right, get_or-replicate, length-replicate, length-append, ext_get_or}
 use Rattle.std.proofs.lemmas.List.FromFn.{length-map-range_with_len, get_or-map-range_with_len}
 use Rattle.std.proofs.lemmas.Nat.{row_fits}
 use Rattle.std.specs.List.{range_with_len}
 use Rattle.std.specs.Option.{option_map}
 use Rattle.byteorder.specs.Endian.{little_bytes}
 use Rattle.flat_memory.specs.Numbers.{with_bytes}
-use Rattle.flat_memory.proofs.Laws.{index_elsewhere}
 use Rattle.map_store.specs.declared.spec.MapKind.{MapKind}
 use Rattle.map_store.specs.declared.spec.MapKind.TheVariants.{Hash, Array, PercpuHash, PercpuArray}
 use Rattle.map_store.specs.declared.spec.MapSpec.{MapSpec}
-use Rattle.map_store.specs.Spec.{is_between, has_key_size, rules, spec_rule, rounded}
+use Rattle.map_store.specs.Spec.{is_between, has_key_size, spec_rule, rounded}
 use Rattle.map_store.specs.Initial.{IsMakeable, first_value, first_entry, first_slots}
-use Rattle.map_store.specs.Slots.{Map, Entry, is_array}
-use Rattle.map_store.specs.SlotsView.{part, is_taken, slot_in, slots_in}
-use Rattle.map_store.proofs.Parts.{length-part, index-part, part-here, part-same}
+use Rattle.map_store.specs.Slots.{Entry, is_array}
+use Rattle.map_store.specs.SlotsView.{part, is_taken, slots_in}
+use Rattle.map_store.proofs.Parts.{length-part, index-part, part-here}
 use Rattle.map_store.proofs.SlotLists.{length-slots_in, get-slots_in}
 use Rattle.map_store.proofs.Writes.{slot_in-taken, slot_in-empty}
 

@@ -1,17 +1,16 @@
 -- The values of a map, and of all maps, as memory.
 use mathlib.Core.Path.{fun_ext}
-use Rattle.std.proofs.Common.{◌≡◌, ℕ, ◌+◌, ◌-◌, ◌*◌, ◌/◌, ◌%◌, ◌<◌, ◌≤◌, ◌⊎◌, inl, inr, Bool, true, false, nat_le, nat_lt, ◌&&◌, if◌then◌else◌, List, set, length, get_or, slice_index, slice_get, Option, Some, None, Vec, Global, refl, sym, ap, ◌∙◌, arith}
+use Rattle.std.proofs.Common.{◌≡◌, ℕ, ◌+◌, ◌-◌, ◌*◌, ◌/◌, ◌%◌, ◌<◌, ◌≤◌, ◌⊎◌, inl, inr, Bool, true, false, nat_lt, ◌&&◌, if◌then◌else◌, List, set, length, slice_get, None, refl, sym, ap, ◌∙◌, arith}
 use Rattle.std.proofs.lemmas.Bool.{cases_lt, cases_eq, cases_Bool, le-leb, lt-leb, lt-ltb, le-ltb}
 use Rattle.std.proofs.lemmas.List.{get_or_past, get_or-set_same, get_or-set_other}
 use Rattle.std.proofs.lemmas.Nat.{div-mul-add, mod-mul-add}
-use Rattle.std.proofs.lemmas.Option.{gets}
 use Rattle.flat_memory.specs.Memory.{Memory, masked, written}
 use Rattle.flat_memory.specs.Numbers.{with_bytes}
 use Rattle.flat_memory.proofs.Bytes.{length-with_bytes}
 use Rattle.flat_memory.proofs.Laws.{masked-shown, masked-hidden, masked-write, written-here, written-elsewhere, cases_range}
 use Rattle.map_store.specs.Spec.{rounded}
 use Rattle.map_store.specs.Slots.{Map, map_at}
-use Rattle.map_store.specs.Values.{values_start, map_room, number_of, offset_of, byte_in, values_in, values}
+use Rattle.map_store.specs.Values.{values_start, number_of, offset_of, values_in, values}
 use Rattle.map_store.specs.SlotsView.{is_taken, map_of, HasBuffers}
 use Rattle.map_store.specs.declared.slots.Slots.TheInside.{Inside}
 use Rattle.map_store.proofs.Access.{IsSpot, IsRead, spot, values_in-taken, values_in-empty, values_in-past}

@@ -1,7 +1,6 @@
 -- A map is a list of slots, each empty or a pair of key and value.
-use Rattle.std.specs.Prelude.{ℕ, Bool, true, false, nat_eq, List, [], length, slice_index_or, slice_set, position, Option, Some, None, if◌then◌else◌}
+use Rattle.std.specs.Prelude.{ℕ, Bool, true, false, nat_eq, List, [], slice_index_or, slice_set, position, Option, Some, None}
 use Rattle.std.specs.Cmp.Lexicographic.{pointwise}
-use Rattle.std.specs.Option.{option_or}
 use Rattle.map_store.specs.declared.spec.MapKind.{MapKind}
 use Rattle.map_store.specs.declared.spec.MapKind.TheVariants.{Hash, Array, PercpuHash, PercpuArray}
 

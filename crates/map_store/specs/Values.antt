@@ -1,8 +1,8 @@
 -- The values of live slots stand at fixed addresses: slot s of map m at 0x40000000 + m * 0x01000000 + s * the rounded value size.
-use Rattle.std.specs.Prelude.{ℕ, ◌+◌, ◌-◌, ◌*◌, ◌/◌, ◌%◌, Bool, false, not, ◌&&◌, nat_le, List, [], length, slice_get, slice_index_or, slice_set, Option, Some, None, if◌then◌else◌}
+use Rattle.std.specs.Prelude.{ℕ, ◌+◌, ◌-◌, ◌*◌, ◌/◌, ◌%◌, Bool, false, not, ◌&&◌, nat_le, List, length, slice_get, slice_index_or, slice_set, Option, Some, None, if◌then◌else◌}
 use Rattle.std.specs.Option.{option_map}
 use Rattle.flat_memory.specs.Memory.{Memory, number_at}
-use Rattle.flat_memory.specs.Numbers.{with_bytes, stored, size_of}
+use Rattle.flat_memory.specs.Numbers.{with_bytes, size_of}
 use Rattle.bpf_insn.specs.declared.operation.Size.{Size}
 use Rattle.map_store.specs.Spec.{rounded}
 use Rattle.map_store.specs.Slots.{Map, Entry, map_at, with_map, is_shared, place_of}

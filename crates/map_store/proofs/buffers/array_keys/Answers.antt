@@ -1,5 +1,4 @@
-use Rattle.std.proofs.Common.{rules, ◌≡◌, ℕ, ◌+◌, ◌*◌, ◌≤◌, ◌++◌, length, refl, ap, sym, ◌∙◌, arith, length-append}
-use Rattle.byteorder.specs.Endian.{little_bytes}
+use Rattle.std.proofs.Common.{◌≡◌, ◌+◌, ◌*◌, ◌++◌, length, ap, arith, length-append}
 use Rattle.map_store.proofs.Start.{array_keys-more}
 use Rattle.map_store.proofs.buffers.array_keys.Goals as goal
 

@@ -1,4 +1,4 @@
-use Rattle.std.proofs.Common.{rules, ◌≡◌, ◌+◌, ◌-◌, length, refl, arith}
+use Rattle.std.proofs.Common.{◌≡◌, ◌+◌, ◌-◌, length, refl, arith}
 use Rattle.flat_memory.proofs.Bytes.{part_written}
 use Rattle.map_store.proofs.buffers.copy_at.Goals as goal
 

@@ -1,6 +1,6 @@
-use Rattle.std.proofs.Common.{rules, ◌≡◌, ℕ, ◌*◌, ◌≤◌, true, length, IfOk, refl, ap, sym, ◌∙◌, arith}
+use Rattle.std.proofs.Common.{◌≡◌, true, sym, ◌∙◌}
 use Rattle.map_store.specs.Slots.{is_array}
-use Rattle.map_store.proofs.Start.{AreInRange, in_range, four_bytes}
+use Rattle.map_store.proofs.Start.{in_range, four_bytes}
 use Rattle.map_store.proofs.buffers.first_keys.Goals as goal
 
 pub array_keys-requires : goal.array_keys-requires

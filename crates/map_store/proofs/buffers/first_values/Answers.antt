@@ -1,8 +1,6 @@
-use Rattle.std.proofs.Common.{rules, ◌≡◌, ℕ, ◌+◌, ◌*◌, ◌≤◌, List, length, replicate, refl, ap, sym, ◌∙◌, arith}
+use Rattle.std.proofs.Common.{◌≡◌, ◌*◌, ◌≤◌, length, replicate, sym, ◌∙◌, arith}
 use Rattle.std.specs.Vec.{with_items}
 use Rattle.flat_memory.specs.Numbers.{with_bytes}
-use Rattle.map_store.specs.Spec.{rounded}
-use Rattle.map_store.specs.SlotsView.{part}
 use Rattle.map_store.proofs.Changes.{bytes_after}
 use Rattle.map_store.proofs.Start.{initial_fits, first_parts}
 use Rattle.map_store.proofs.buffers.first_values.Goals as goal

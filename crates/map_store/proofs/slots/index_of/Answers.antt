@@ -1,4 +1,4 @@
-use Rattle.std.proofs.Common.{rules, ◌≡◌, ℕ, ◌<◌, ◌≤◌, Fits, w8, get_or, arith}
+use Rattle.std.proofs.Common.{Fits, w8, get_or, arith}
 use Rattle.map_store.proofs.Indices.{index_found, index_absent}
 use Rattle.map_store.proofs.slots.index_of.Goals as goal
 

@@ -1,4 +1,3 @@
-use Rattle.std.proofs.Common.{rules, ◌≡◌, ◌<◌, arith}
 use Rattle.map_store.proofs.SlotRooms.{IsPlace, place_of_slots}
 use Rattle.map_store.proofs.Writes.{with_slots}
 use Rattle.map_store.proofs.Changes.{emptied_at}

@@ -1,7 +1,7 @@
-use Rattle.std.proofs.Common.{rules, ◌≡◌, ◌/◌, ◌%◌, ◌<◌, ◌≤◌, true, false, length, ap, sym, ◌∙◌, arith}
+use Rattle.std.proofs.Common.{◌≡◌, ◌/◌, ◌<◌, ◌≤◌, true, false, length, sym, ◌∙◌}
 use Rattle.std.proofs.lemmas.List.{get_or_read}
 use Rattle.map_store.specs.SlotsView.{is_taken}
-use Rattle.map_store.proofs.Access.{IsSpot, spot, can_read-taken, can_read-empty, can_read-past}
+use Rattle.map_store.proofs.Access.{spot, can_read-taken, can_read-empty, can_read-past}
 use Rattle.map_store.proofs.slots.Slots.has_bytes.Goals as goal
 
 pub returns-then-place-len-clause-answer : goal.returns-then-place-len-clause-answer

@@ -1,5 +1,4 @@
-use Rattle.std.proofs.Common.{rules, ◌≡◌, Some, sym, ◌∙◌}
-use Rattle.map_store.specs.Slots.{place_of}
+use Rattle.std.proofs.Common.{sym, ◌∙◌}
 use Rattle.map_store.proofs.Ends.{updated-new}
 use Rattle.map_store.proofs.slots.Slots.insert.Goals as goal
 

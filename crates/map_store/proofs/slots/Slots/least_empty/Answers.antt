@@ -1,4 +1,4 @@
-use Rattle.std.proofs.Common.{◌≡◌, ℕ, ◌<◌, ap, ◌∙◌, not, length, IfSome}
+use Rattle.std.proofs.Common.{not, length}
 use Rattle.map_store.specs.Slots.{is_empty, least_empty}
 use Rattle.map_store.specs.SlotsView.{IsFirst, is_taken}
 use Rattle.map_store.proofs.Places.{IsPlaceIn, empty_place}

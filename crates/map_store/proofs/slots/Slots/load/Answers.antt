@@ -1,7 +1,6 @@
-use Rattle.std.proofs.Common.{rules, ◌≡◌, ◌+◌, ◌≤◌, true, false, length, ap, sym, ◌∙◌, refl, arith}
+use Rattle.std.proofs.Common.{◌≡◌, true, false, sym, ◌∙◌, refl}
 use Rattle.flat_memory.specs.Numbers.{size_of}
 use Rattle.map_store.specs.Values.{load_in, can_read_in}
-use Rattle.map_store.specs.SlotsView.{map_of}
 use Rattle.map_store.proofs.Access.{IsRead, read_facts, load_is}
 use Rattle.map_store.proofs.slots.Slots.load.Goals as goal
 

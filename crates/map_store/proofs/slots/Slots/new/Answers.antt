@@ -1,4 +1,4 @@
-use Rattle.std.proofs.Common.{rules, ◌≡◌, ℕ, ◌+◌, ◌*◌, ◌<◌, ◌≤◌, true, List, replicate, length, refl, ap, sym, ◌∙◌, arith}
+use Rattle.std.proofs.Common.{◌≡◌, ℕ, ◌+◌, ◌*◌, ◌<◌, ◌≤◌, replicate, length, ap, sym, ◌∙◌, arith}
 use Rattle.std.proofs.Math.Nat.{mul-add}
 use Rattle.map_store.specs.Spec.{rounded}
 use Rattle.map_store.specs.Slots.{is_array}

@@ -1,4 +1,4 @@
-use Rattle.std.proofs.Common.{rules, ◌≡◌, ◌*◌, ◌<◌, ◌^◌, Fits, w32, w64, arith}
+use Rattle.std.proofs.Common.{arith}
 use Rattle.map_store.proofs.SlotRooms.{IsPlace, place_of_slots}
 use Rattle.map_store.proofs.slots.Slots.offset_of.Goals as goal
 

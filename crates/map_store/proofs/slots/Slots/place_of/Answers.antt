@@ -1,4 +1,4 @@
-use Rattle.std.proofs.Common.{◌≡◌, ℕ, ◌<◌, ap, sym, ◌∙◌, true, nat_eq, length, IfSome}
+use Rattle.std.proofs.Common.{◌≡◌, sym, ◌∙◌, true, nat_eq, length}
 use Rattle.std.specs.Cmp.Lexicographic.{pointwise}
 use Rattle.byteorder.specs.Endian.{little_bytes}
 use Rattle.map_store.specs.Slots.{has_key, is_array, place_of}

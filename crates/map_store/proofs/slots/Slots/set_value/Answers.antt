@@ -1,4 +1,4 @@
-use Rattle.std.proofs.Common.{rules, ◌≡◌, ◌+◌, ◌*◌, ◌≤◌, ◌<◌, ◌^◌, length, Fits, w32, w64, refl, ap, sym, ◌∙◌, arith}
+use Rattle.std.proofs.Common.{◌≡◌, ◌*◌, length, ap, arith}
 use Rattle.map_store.proofs.SlotRooms.{IsPlace, place_of_slots}
 use Rattle.map_store.proofs.Writes.{with_slots}
 use Rattle.map_store.proofs.Changes.{bytes_after, value_set}

@@ -1,11 +1,9 @@
-use Rattle.std.proofs.Common.{rules, ◌≡◌, ◌+◌, ◌≤◌, true, false, not, length, ap, sym, ◌∙◌, refl, arith}
+use Rattle.std.proofs.Common.{◌≡◌, true, false, length, sym, ◌∙◌, refl}
 use Rattle.flat_memory.specs.Numbers.{size_of, stored}
 use Rattle.flat_memory.proofs.Bytes.{length-stored}
-use Rattle.map_store.specs.Slots.{is_shared}
-use Rattle.map_store.specs.Values.{load_in, can_read_in, can_write_in}
+use Rattle.map_store.specs.Values.{can_read_in}
 use Rattle.std.specs.Vec.{with_items}
 use Rattle.map_store.specs.declared.slots.Slots.TheInside.{Inside}
-use Rattle.map_store.specs.SlotsView.{map_of}
 use Rattle.map_store.proofs.Access.{IsRead, read_facts, written_at, write-shared, write-own}
 use Rattle.map_store.proofs.Changes.{bytes_after}
 use Rattle.map_store.proofs.ValueMemory.{values_after}

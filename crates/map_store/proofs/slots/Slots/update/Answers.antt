@@ -1,4 +1,4 @@
-use Rattle.std.proofs.Common.{rules, ◌≡◌, Some, sym, ◌∙◌}
+use Rattle.std.proofs.Common.{◌≡◌, Some, sym, ◌∙◌}
 use Rattle.map_store.specs.Slots.{place_of}
 use Rattle.map_store.proofs.Ends.{updated-there, found_key}
 use Rattle.map_store.proofs.slots.Slots.update.Goals as goal

@@ -1,7 +1,7 @@
-use Rattle.std.proofs.Common.{rules, ◌≡◌, ◌+◌, ◌-◌, ◌*◌, ◌/◌, ◌<◌, ◌≤◌, length, get_or, Some, None, refl, ap, sym, ◌∙◌, arith}
+use Rattle.std.proofs.Common.{◌≡◌, ◌-◌, ◌<◌, ◌≤◌, length, sym, ◌∙◌, arith}
 use Rattle.flat_memory.specs.Numbers.{size_of}
-use Rattle.map_store.specs.Slots.{map_at, place_of}
-use Rattle.map_store.specs.Values.{number_of, offset_of}
+use Rattle.map_store.specs.Slots.{map_at}
+use Rattle.map_store.specs.Values.{number_of}
 use Rattle.map_store.proofs.Regions.{map_read, read-below, read-nowhere, load-none, load-at}
 use Rattle.map_store.proofs.store.Store.load.Goals as goal
 

@@ -1,5 +1,5 @@
-use Rattle.std.proofs.Common.{rules, ◌≡◌, ◌+◌, ◌*◌, ◌<◌, ◌≤◌, length, Some, None, refl, ap, sym, ◌∙◌, arith}
-use Rattle.map_store.specs.Slots.{map_at, place_of}
+use Rattle.std.proofs.Common.{◌≡◌, sym, ◌∙◌}
+use Rattle.map_store.specs.Slots.{map_at}
 use Rattle.map_store.proofs.Regions.{map_read, lookup-some, lookup-none}
 use Rattle.map_store.proofs.store.Store.lookup.Goals as goal
 

@@ -1,4 +1,4 @@
-use Rattle.std.proofs.Common.{◌≡◌, ℕ, ◌≤◌, map, take, length, ap, ◌∙◌, arith, length-take}
+use Rattle.std.proofs.Common.{◌≡◌, take, length, ap, ◌∙◌, arith, length-take}
 use Rattle.std.proofs.lemmas.List.{length-map}
 use Rattle.map_store.specs.Initial.{first_map}
 use Rattle.map_store.proofs.store.Store.new.Goals as goal

@@ -1,4 +1,4 @@
-use Rattle.std.proofs.Common.{rules, ◌≡◌, ◌+◌, ◌-◌, ◌*◌, ◌<◌, ◌≤◌, length, get_or, refl, ap, sym, ◌∙◌, arith}
+use Rattle.std.proofs.Common.{◌≡◌, ◌-◌, ◌<◌, ◌≤◌, length, ap, sym, ◌∙◌, arith}
 use Rattle.flat_memory.specs.Numbers.{size_of, stored}
 use Rattle.map_store.specs.Slots.{Map, map_at}
 use Rattle.map_store.specs.Values.{number_of, offset_of, can_write_in}
