@@ -82,7 +82,11 @@ fn moves_numbers_in_values(rt: HostRuntime) -> Result<(), Fail> {
 /// A map with keys of 4 bytes.
 fn spec_of(alloc: Global, kind: MapKind, value_size: u32, max_entries: u32) -> MapSpec
     ensures { result ≡ record {
-      kind = kind; key_size = 4; value_size = value_size; max_entries = max_entries; initial = [];
+      kind = kind;
+      key_size = 4;
+      value_size = value_size;
+      max_entries = max_entries;
+      initial = [];
     } }
 {
     MapSpec {
