@@ -1,0 +1,38 @@
+ghost use Rattle.std.specs.Prelude.{◌≡◌, vec_len};
+
+use arrayvec::ArrayVec;
+use lists::OutOfMemory;
+use std::alloc::Global;
+
+/// r0 to r10.
+pub(crate) type Registers = [u64; 11];
+
+/// A function that waits for the one that it called: the slot of the call, and its r6 to r10.
+#[derive(Clone, Copy, Debug, Default)]
+pub(crate) struct Caller {
+    pub call: u32,
+    pub kept: [u64; 5],
+}
+
+/// How many bytes lie from the start of the first frame of the stack to the end of the last.
+pub(crate) const STACK_SIZE: usize = 0x7200;
+
+/// Room for runs, one after another.
+#[derive(Debug, Drop)]
+pub struct Scratch {
+    pub(crate) registers: Registers,
+    pub(crate) callers: ArrayVec<Caller, 7>,
+    pub(crate) stack: Vec<u8>,
+    ghost room: { vec_len stack ≡ 0x7200 },
+}
+
+impl Scratch {
+    /// Room for runs, taken once.
+    pub fn new(alloc: Global) -> Result<Self, OutOfMemory> {
+        Ok(Scratch {
+            registers: [0; 11],
+            callers: ArrayVec::new(),
+            stack: vec![in alloc; 0; STACK_SIZE]?,
+        })
+    }
+}
