@@ -15,7 +15,7 @@ stack_start = 0x20000000
 abbrev pub context_start : ℕ
 context_start = 0x30000000
 
--- The next instruction's slot, r0 to r10, the frames that called the current one, the innermost first, the bytes that
+-- The next instruction's slot, r0 to r10, the functions that wait for a callee, the innermost last, the bytes that
 -- stand in memory, the packet's ends and the end of its buffer, and where a redirect goes.
 pub record State : Type 0 where
   pub next : ℤ
