@@ -6,6 +6,7 @@ pub mod Finishing
 pub mod Standing
 pub mod Running
 pub mod Closing
+pub mod Ordering
 pub mod Working
 pub mod OneTrace
 pub mod Ends

@@ -6,6 +6,8 @@ use Rattle.std.specs.Cmp.Lexicographic.{pointwise}
 use Rattle.std.specs.Prelude.{nat_eq}
 use Rattle.xio.specs.Lent.{if_told}
 use Rattle.xio.proofs.SetLemmas.{set_at-same}
+use Rattle.std.proofs.lemmas.Slice.Eq.{bytes_eq-Decides}
+use Rattle.xio.specs.Prefixes.{AppendsPrefix}
 use Rattle.xio.specs.Told.{Told, after_make, set_named, told_beside}
 use Rattle.xdp_tool.specs.Ending.{status_of}
 use Rattle.xdp_tool.specs.Headline.{IsTracedUpTo, Touches, is_other, made_name, trace_name}
@@ -21,6 +23,9 @@ set_named-other f name v other apart = by_case (pointwise nat_eq other name) ref
     by_case : (b : Bool) → pointwise nat_eq other name ≡ b → set_named f name v other ≡ f other
     by_case true here = absurd (true≢false (sym apart ∙ ap not here))
     by_case false differs = rw differs refl
+
+set_named-here : {V : Type 0} (f : List ℕ → V) (name : List ℕ) (v : V) → set_named f name v name ≡ v
+set_named-here f name v = rw ((bytes_eq-Decides name name).1 refl) refl
 
 -- what is told of another name
 beside-other : (t t' : Told) (n : ℕ) (name other : List ℕ) → t.name_of n ≡ name → t'.name_of n ≡ name → told_beside t' n ≡ told_beside t n → is_other (Some name) other ≡ true → (t'.content other ≡ t.content other) × (t'.flushed other ≡ t.flushed other)
@@ -53,6 +58,15 @@ told-of false t t' yes' same = absurd (false≢true yes')
 pub traced-since : (t t₁ t₂ : Told) (text name : List ℕ) → t₁.content name ≡ t.content name → IsTracedUpTo t₁ t₂ text name → IsTracedUpTo t t₂ text name
 traced-since t t₁ t₂ text name same (inl untouched) = inl (untouched ∙ same)
 traced-since t t₁ t₂ text name same (inr front) = inr front
+
+-- the trace's file as a sink
+pub traced_made : (t t₁ t₂ t₃ : Told) (text name : List ℕ) (n n₂ : ℕ) → t₁ ≡ after_make t name (Ok n) → n₂ ≡ n → told_beside t₂ n₂ ≡ told_beside t₁ n → t₃ ≡ t₂ → AppendsPrefix (t₁.content (t₁.name_of n)) (t₂.content (t₂.name_of n₂)) text → IsTracedUpTo t t₃ text name
+traced_made t t₁ t₂ t₃ text name n n₂ made file same₂ last front =
+    let same : told_beside t₂ n ≡ told_beside t₁ n = rw file at same₂ in
+    let own : t₁.name_of n ≡ name = ap (λ (u : Told). u.name_of n) made ∙ set_at-same t.name_of n name in
+    let own' : t₂.name_of n ≡ name = ap (λ (u : Told). u.name_of n) same ∙ own in
+    let empty : t₁.content name ≡ [] = ap (λ (u : Told). u.content name) made ∙ set_named-here t.content name [] in
+    inr (rw (ap (λ (u : Told). u.content name) last) (rw (own, empty, file, own') at front))
 
 pub traced-all : (t t₁ t₂ : Told) (text : List ℕ) (name : Option (List ℕ)) (names : List (List ℕ)) → Touches t t₁ names None → IfSome name (IsTracedUpTo t₁ t₂ text) → IfSome name (IsTracedUpTo t t₂ text)
 traced-all t t₁ t₂ text (Some name) names before traced = traced-since t t₁ t₂ text name (before.content name refl) traced

@@ -1,5 +1,5 @@
 -- A run, as its lines are worked.
-use Rattle.std.proofs.Common.{◌≡◌, ℕ, ◌+◌, ◌<◌, ◌≤◌, Bool, false, List, [], ◌∷◌, ◌++◌, length, drop, get_or, Result, Ok, Err, OnOk, IfOk, Option, Some, None, refl, ap, sym, ◌∙◌}
+use Rattle.std.proofs.Common.{◌≡◌, ℕ, ◌⊎◌, ◌+◌, ◌<◌, ◌≤◌, Bool, false, List, [], ◌∷◌, ◌++◌, length, drop, get_or, Result, Ok, Err, OnOk, IfOk, Option, Some, None, refl, ap, sym, ◌∙◌}
 use Rattle.std.proofs.lemmas.Bool.{false≢true}
 use Rattle.std.proofs.lemmas.List.{drop_more, drop_all}
 use Rattle.std.specs.Result.{IsErr}
@@ -13,6 +13,7 @@ use Rattle.xio.specs.Prefixes.{AppendsPrefix}
 use Rattle.xdp_state.specs.Answer.{answer}
 use Rattle.xdp_state.specs.Book.{after}
 use Rattle.xdp_tool.proofs.Closing.{closed-counted, closed-needs}
+use Rattle.xdp_tool.proofs.Ordering.{Ordered, ended-ordered}
 use Rattle.xdp_tool.proofs.Running.{Ran, Steps, ended-legal, ended-out, ended-trace, ran-more}
 use Rattle.xdp_tool.specs.Lanes.{needs_from}
 use Rattle.xdp_tool.specs.Legal.{AreLegal}
@@ -50,6 +51,12 @@ pub closed-trace : (traced : Bool) (interfaces : List Interface) (done : List Ph
 closed-trace traced interfaces done past choices now phase barrier rest result old held new ran counts is text =
     ended-trace traced interfaces done past choices now (ended_by barrier phase) rest result old held new ran
     (rw (closed-needs 0 (queues_of interfaces) phase barrier) counts) is (rw (closed-needs 0 (queues_of interfaces) phase barrier) text)
+
+pub closed-ordered : (traced : Bool) (interfaces : List Interface) (done : List Phase) (past : Past) (choices now : List (List (List ℕ))) (phase : Phase) (barrier : Option ℕ) (rest : List Phase) (result : Result Unit Stop) (old_out held out old_trace had trace : List ℕ) → Ran interfaces done past choices → EndsChoices result choices now (needs_from 0 (queues_of interfaces) phase) → held ≡ old_out ++ out_text interfaces done choices → EndsText result held out (phase_text interfaces (ended_by barrier phase) past.counted (past_after interfaces past phase).counted) → had ≡ old_trace ++ traces_if traced (queues_of interfaces) done choices → EndsText result had trace (traced_text traced (queues_of interfaces) (length choices) (ended_by barrier phase) (needs_from 0 (queues_of interfaces) phase)) → (out ≡ held ++ phase_text interfaces (ended_by barrier phase) past.counted (past_after interfaces past phase).counted) ⊎ (trace ≡ had) → Ordered traced interfaces (done ++ ended_by barrier phase ∷ rest) now old_out out old_trace trace
+closed-ordered traced interfaces done past choices now phase barrier rest result old_out held out old_trace had trace ran counts is text was traces order =
+    ended-ordered traced interfaces done past choices now (ended_by barrier phase) rest result old_out held out old_trace had trace ran
+    (rw (closed-needs 0 (queues_of interfaces) phase barrier) counts) is (rw (counted-closed interfaces past phase barrier) text) was
+    (rw (closed-needs 0 (queues_of interfaces) phase barrier) traces) (rw (counted-closed interfaces past phase barrier) order)
 
 pub closed-ran : (interfaces : List Interface) (done : List Phase) (past : Past) (choices now : List (List (List ℕ))) (phase : Phase) (barrier : Option ℕ) → Ran interfaces done past choices → Steps past phase → now ≡ choices ++ needs_from 0 (queues_of interfaces) phase ∷ [] → Ran interfaces (done ++ ended_by barrier phase ∷ []) (past_after interfaces past phase) now
 closed-ran interfaces done past choices now phase barrier ran steps is =

@@ -12,5 +12,6 @@ pub mod Closed
 pub mod PhaseEnd
 pub mod Outcome
 pub mod Named
+pub mod Order
 pub mod Headline
 pub mod Run

@@ -1,10 +1,11 @@
-ghost use Rattle.std.specs.Prelude.{◌≡◌, ◌≢◌, ◌⊎◌, ◌+◌, ◌<◌, ◌≤◌, ◌++◌, true, [], length, if◌then◌else◌, IsTrue, OnOk, IfOk, Err};
+ghost use Rattle.std.specs.Prelude.{◌≡◌, ◌≢◌, ◌⊎◌, ◌+◌, ◌<◌, ◌≤◌, ◌++◌, ℕ, true, [], length, take, if◌then◌else◌, IsTrue, OnOk, IfOk, Err};
 ghost use Rattle.std.specs.List.{list_all};
 ghost use Rattle.xio.specs.Causes.{Rose};
 ghost use Rattle.xio.specs.Prefixes.{AppendsPrefix};
 ghost use Rattle.script_text.specs.Handed.{has_frame, has_flags};
 ghost use Rattle.xdp_tool.specs.Lanes.{needs_from};
 ghost use Rattle.xdp_tool.specs.Legal.{AreLegal};
+ghost use Rattle.xdp_tool.specs.Order.{AppendsWhole};
 ghost use Rattle.xdp_tool.specs.PhaseEnd.{EndsText, EndsChoices, PutsText};
 ghost use Rattle.xdp_tool.specs.Plan.{Phase, plan, has_refusal, opened, with_what};
 ghost use Rattle.xdp_tool.specs.Queues.{queues_of};
@@ -53,6 +54,11 @@ pub fn perform<O: Sink, T: Sink>(
     ensures trace_whole { IsTrue T.tells → OnOk result (T.held trace.new
         ≡ T.held trace.old ++ trace_if traced (queues_of script.now.interfaces) (plan script.now) choices.new) }
     ensures trace_flushed { IsTrue T.tells → OnOk result (T.flushed trace.new ≡ length (T.held trace.new)) }
+    ensures ordered { IsTrue O.tells → IsTrue T.tells → (ended : ℕ)
+        × AppendsWhole (O.held out.old) (O.held out.new)
+        (out_text script.now.interfaces (plan script.now) (take ended choices.new))
+        × AppendsPrefix (T.held trace.old) (T.held trace.new)
+        (trace_if traced (queues_of script.now.interfaces) (plan script.now) (take ended choices.new)) }
     ensures fault { result ≡ Err Stop.Fault
         → Rose (O.faults out.old) (O.faults out.new) ⊎ Rose (T.faults trace.old) (T.faults trace.new) }
     ensures out_later { O.faults out.old ≤ O.faults out.new }
@@ -102,6 +108,11 @@ fn work<O: Sink, T: Sink>(
         (out_text script.now.interfaces (plan script.now) choices.new) }
     ensures trace { IsTrue T.tells → PutsText result (T.held trace.old) (T.held trace.new)
         (traces_if traced (queues_of script.now.interfaces) (plan script.now) choices.new) }
+    ensures ordered { IsTrue O.tells → IsTrue T.tells → (ended : ℕ)
+        × AppendsWhole (O.held out.old) (O.held out.new)
+        (out_text script.now.interfaces (plan script.now) (take ended choices.new))
+        × AppendsPrefix (T.held trace.old) (T.held trace.new)
+        (traces_if traced (queues_of script.now.interfaces) (plan script.now) (take ended choices.new)) }
     ensures fault { result ≡ Err Stop.Fault
         → Rose (O.faults out.old) (O.faults out.new) ⊎ Rose (T.faults trace.old) (T.faults trace.new) }
     ensures out_later { O.faults out.old ≤ O.faults out.new }
@@ -162,6 +173,9 @@ fn end_phase<O: Sink, T: Sink>(
         → EndsText result (T.held trace.old) (T.held trace.new) (traced_text walk.old.traced
         (queues_of walk.old.interfaces.now) (length choices.old) (record phase { barrier = barrier })
         (needs_from 0 (queues_of walk.old.interfaces.now) phase)) }
+    ensures ordered { IsTrue O.tells → IsTrue T.tells → (past : Past) (phase : Phase) → Stands walk.old past phase
+        → (O.held out.new ≡ O.held out.old ++ phase_text walk.old.interfaces.now (record phase { barrier = barrier })
+        past.counted (past_after walk.old.interfaces.now past phase).counted) ⊎ (T.held trace.new ≡ T.held trace.old) }
     ensures same_count { walk.new.state ≡ walk.old.state }
     ensures same { walk.new.interfaces.now ≡ walk.old.interfaces.now }
     ensures same_traced { walk.new.traced ≡ walk.old.traced }
@@ -197,6 +211,8 @@ fn put_both<O: Sink, T: Sink>(
 ) -> Result<(), Stop>
     ensures out { IsTrue O.tells → PutsText result (O.held out.old) (O.held out.new) text.now }
     ensures trace { IsTrue T.tells → PutsText result (T.held trace.old) (T.held trace.new) trace_text.now }
+    ensures ordered { IsTrue O.tells → IsTrue T.tells
+        → (O.held out.new ≡ O.held out.old ++ text.now) ⊎ (T.held trace.new ≡ T.held trace.old) }
     ensures fault { result ≡ Err Stop.Fault
         → Rose (O.faults out.old) (O.faults out.new) ⊎ Rose (T.faults trace.old) (T.faults trace.new) }
     ensures no_memory { result ≢ Err Stop.OutOfMemory }

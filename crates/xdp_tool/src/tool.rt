@@ -1,4 +1,4 @@
-ghost use Rattle.std.specs.Prelude.{◌≡◌, ◌⊎◌, ◌≤◌, ◌++◌, true, false, [], length, IsTrue, IfSome, OnOk, IfOk, Err};
+ghost use Rattle.std.specs.Prelude.{◌≡◌, ◌⊎◌, ◌≤◌, ◌++◌, ℕ, true, false, [], length, take, IsTrue, IfSome, OnOk, IfOk, Err};
 ghost use Rattle.std.specs.List.{list_all};
 ghost use Rattle.script_text.specs.Handed.{has_frame, has_flags};
 ghost use Rattle.xio.specs.Causes.{Rose};
@@ -7,6 +7,7 @@ ghost use Rattle.xdp_tool.specs.Ending.{status_of};
 ghost use Rattle.xdp_tool.specs.Headline.{words_of, is_status, is_decided, is_end, is_whole, IsDecided, IsExplained, IsTraced, IsTracedUpTo, out_of, trace_of, said, asked_names, trace_name, made_name, Touches};
 ghost use Rattle.xdp_tool.specs.Legal.{AreLegal};
 ghost use Rattle.xdp_tool.specs.Named.{name_of};
+ghost use Rattle.xdp_tool.specs.Order.{AppendsWhole};
 ghost use Rattle.xdp_tool.specs.Outcome.{Cut, Whole, prepared, ending_after};
 ghost use Rattle.xdp_tool.specs.Plan.{plan, has_refusal};
 ghost use Rattle.xdp_tool.specs.Queues.{queues_of};
@@ -56,6 +57,13 @@ pub fn run_tool<F: Files, O: Sink, E: Sink>(
         (out_of (prepared (words_of words.now) (F.told files.old).content) cut result.choices))
         × IfSome (trace_name (names_in (words_of words.now))) (IsTracedUpTo (F.told files.old) (F.told files.new)
         (trace_of (prepared (words_of words.now) (F.told files.old).content) cut result.choices)) }
+
+    // However the run ends, out has some phases whole, and the trace has nothing of those behind them.
+    ensures ordered { IsTrue F.tells → IsTrue O.tells → (ended : ℕ)
+        × AppendsWhole (O.held out.old) (O.held out.new)
+        (out_of (prepared (words_of words.now) (F.told files.old).content) Whole (take ended result.choices))
+        × IfSome (trace_name (names_in (words_of words.now))) (IsTracedUpTo (F.told files.old) (F.told files.new)
+        (trace_of (prepared (words_of words.now) (F.told files.old).content) Whole (take ended result.choices))) }
 
     // Out is whole and flushed where the script ran to its end, and so is the trace. Out is whole with a decided status.
     ensures whole { IsTrue F.tells → IsTrue O.tells → is_whole result.status ≡ true → O.held out.new
@@ -139,6 +147,11 @@ fn run<F: Files, O: Sink>(
     ensures trace_whole { IsTrue F.tells → is_end (status_of result) ≡ true
         → IfSome (trace_name (names_in (words_of words.now))) (IsTraced (F.told files.new)
         (trace_of (prepared (words_of words.now) (F.told files.old).content) Whole choices.new)) }
+    ensures ordered { IsTrue F.tells → IsTrue O.tells → (ended : ℕ)
+        × AppendsWhole (O.held out.old) (O.held out.new)
+        (out_of (prepared (words_of words.now) (F.told files.old).content) Whole (take ended choices.new))
+        × IfSome (trace_name (names_in (words_of words.now))) (IsTracedUpTo (F.told files.old) (F.told files.new)
+        (trace_of (prepared (words_of words.now) (F.told files.old).content) Whole (take ended choices.new))) }
     ensures touched { IsTrue F.tells → Touches (F.told files.old) (F.told files.new)
         (asked_names (names_in (words_of words.now))) (made_name (names_in (words_of words.now)) (status_of result)) }
     ensures same_handles { F.handles files.new ≡ F.handles files.old }
@@ -182,6 +195,11 @@ fn work<F: Files, O: Sink>(
         (trace_text (queues_of script.now.interfaces) (plan script.now) choices.new)) }
     ensures trace_whole { IsTrue F.tells → OnOk result (IfSome (name_of trace.entry) (IsTraced (F.told files.new)
         (trace_text (queues_of script.now.interfaces) (plan script.now) choices.new))) }
+    ensures ordered { IsTrue F.tells → IsTrue O.tells → (ended : ℕ)
+        × AppendsWhole (O.held out.old) (O.held out.new)
+        (out_text script.now.interfaces (plan script.now) (take ended choices.new))
+        × IfSome (name_of trace.entry) (IsTracedUpTo (F.told files.old) (F.told files.new)
+        (trace_text (queues_of script.now.interfaces) (plan script.now) (take ended choices.new))) }
     ensures touched { IsTrue F.tells → Touches (F.told files.old) (F.told files.new) [] (name_of trace.entry) }
     ensures same_handles { F.handles files.new ≡ F.handles files.old }
     ensures fault { result ≡ Err Stop.Fault

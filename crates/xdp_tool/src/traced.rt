@@ -1,10 +1,11 @@
-ghost use Rattle.std.specs.Prelude.{◌≡◌, ◌⊎◌, ◌≤◌, ◌++◌, true, [], ◌∷◌, length, IsTrue, OnOk, IfOk, Err, Some};
+ghost use Rattle.std.specs.Prelude.{◌≡◌, ◌⊎◌, ◌≤◌, ◌++◌, ℕ, true, [], ◌∷◌, length, take, IsTrue, OnOk, IfOk, Err, Some};
 ghost use Rattle.std.specs.List.{list_all};
 ghost use Rattle.xio.specs.Causes.{Rose};
 ghost use Rattle.xio.specs.Prefixes.{AppendsPrefix};
 ghost use Rattle.script_text.specs.Handed.{has_frame, has_flags};
 ghost use Rattle.xdp_tool.specs.Headline.{IsTraced, IsTracedUpTo, Touches};
 ghost use Rattle.xdp_tool.specs.Legal.{AreLegal};
+ghost use Rattle.xdp_tool.specs.Order.{AppendsWhole};
 ghost use Rattle.xdp_tool.specs.Plan.{plan, has_refusal};
 ghost use Rattle.xdp_tool.specs.Queues.{queues_of};
 ghost use Rattle.xdp_tool.specs.Texts.{out_text};
@@ -42,6 +43,11 @@ pub fn perform_into<F: Files, O: Sink>(
         (trace_text (queues_of script.now.interfaces) (plan script.now) choices.new) name.now }
     ensures trace_whole { IsTrue F.tells → OnOk result (IsTraced (F.told files.new)
         (trace_text (queues_of script.now.interfaces) (plan script.now) choices.new) name.now) }
+    ensures ordered { IsTrue F.tells → IsTrue O.tells → (ended : ℕ)
+        × AppendsWhole (O.held out.old) (O.held out.new)
+        (out_text script.now.interfaces (plan script.now) (take ended choices.new))
+        × IsTracedUpTo (F.told files.old) (F.told files.new)
+        (trace_text (queues_of script.now.interfaces) (plan script.now) (take ended choices.new)) name.now }
     ensures touched { IsTrue F.tells → Touches (F.told files.old) (F.told files.new) [] (Some name.now) }
     ensures same_handles { F.handles files.new ≡ F.handles files.old }
     ensures fault { result ≡ Err Stop.Fault

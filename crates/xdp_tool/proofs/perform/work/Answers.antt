@@ -1,6 +1,7 @@
 use Rattle.std.proofs.Common.{◌≡◌, ◌<◌, ◌++◌, [], ◌∷◌, length, drop, get_or, Some, None, Ok, Err, ap, sym, ◌∙◌, refl, arith, append-nil, append_assoc, rules}
+use Rattle.xdp_tool.proofs.Ordering.{none-ordered, stopped-ordered}
 use Rattle.xdp_tool.proofs.Running.{ran-none, steps-of, stopped-legal, stopped-out, stopped-trace, traces-none}
-use Rattle.xdp_tool.proofs.Working.{closed-legal, closed-out, closed-ran, closed-trace, ended_by, plan-barrier, plan-last, plan-step, not-ok, not-ok-value, puts-front, step-unclosed}
+use Rattle.xdp_tool.proofs.Working.{closed-legal, closed-ordered, closed-out, closed-ran, closed-trace, ended_by, plan-barrier, plan-last, plan-step, not-ok, not-ok-value, puts-front, step-unclosed}
 use Rattle.xdp_tool.specs.Plan.{opened, phases_from, plan, with_what}
 use Rattle.xdp_tool.specs.Queues.{queues_of}
 use Rattle.xdp_tool.specs.Walked.{no_past, past_after}
@@ -26,6 +27,10 @@ loop-line-init g c = record {
   same_out = refl;
   same_trace = refl;
 }
+
+pub returns-in-Err-clause-ordered : goal.returns-in-Err-clause-ordered
+returns-in-Err-clause-ordered g c = λ told tells.
+    none-ordered c.args.traced c.args.script.now.interfaces (plan c.args.script.now) c.args.choices.now _ _ c.requires.none
 
 pub returns-in_err-end_phase-in-Barrier-clause-legal : goal.returns-in_err-end_phase-in-Barrier-clause-legal
 returns-in_err-end_phase-in-Barrier-clause-legal g c =
@@ -56,6 +61,17 @@ returns-in_err-end_phase-in-Barrier-clause-trace g c = λ tells.
     (rw inv.same at (c.in_err-end_phase-in-Barrier.ensures.choices inv.past inv.phase inv.stands)) (inv.trace tells)
     (rw (inv.same, inv.traced) at (c.in_err-end_phase-in-Barrier.ensures.trace tells inv.past inv.phase inv.stands))))
 
+pub returns-in_err-end_phase-in-Barrier-clause-ordered : goal.returns-in_err-end_phase-in-Barrier-clause-ordered
+returns-in_err-end_phase-in-Barrier-clause-ordered g c = λ told tells.
+    let inv = c.loop-line.invariant in
+    let script = c.args.script.now in
+    rw (plan-barrier script.interfaces (plan script) inv.done inv.phase script.lines c.loop-line.line-index c.line-item.result (omega (arith, c.loop-line-test.true, ap length c.as_slice-line-items.ensures)) (rw c.as_slice-line-items.ensures at c.line-item.is) c.in-Barrier.is inv.plan_is)
+    (closed-ordered c.args.traced script.interfaces inv.done inv.past c.loop-line.choices c.end_phase.new.choices inv.phase (Some c.line-item.result.line) _ (Err c.in_err-end_phase-in-Barrier.field-0.0) _ _ _ _ _ _ inv.ran
+    (rw inv.same at (c.in_err-end_phase-in-Barrier.ensures.choices inv.past inv.phase inv.stands)) (inv.out told)
+    (rw inv.same at (c.in_err-end_phase-in-Barrier.ensures.out told inv.past inv.phase inv.stands)) (inv.trace tells)
+    (rw (inv.same, inv.traced) at (c.in_err-end_phase-in-Barrier.ensures.trace tells inv.past inv.phase inv.stands))
+    (rw inv.same at (c.end_phase.ensures.ordered told tells inv.past inv.phase inv.stands)))
+
 pub returns-in_err-do_line-in_default : goal.returns-in_err-do_line-in_default
 returns-in_err-do_line-in_default g c =
     let inv = c.loop-line.invariant in
@@ -68,6 +84,7 @@ returns-in_err-do_line-in_default g c =
       refused = not-ok-value _ _ stopped;
       out = λ tells. rw inv.plan_is (puts-front _ _ _ _ stopped (stopped-out script.interfaces inv.done inv.past c.loop-line.choices rest _ _ inv.ran (inv.out tells)));
       trace = λ tells. rw inv.plan_is (puts-front _ _ _ _ stopped (stopped-trace c.args.traced script.interfaces inv.done inv.past c.loop-line.choices rest _ _ inv.ran (inv.trace tells)));
+      ordered = λ told tells. rw inv.plan_is (stopped-ordered c.args.traced script.interfaces inv.done inv.past c.loop-line.choices rest _ _ _ _ inv.ran (inv.out told) (inv.trace tells));
       fault = search rules;
       out_later = inv.out_later;
       trace_later = inv.trace_later;
@@ -179,3 +196,25 @@ returns-clause-trace g c = λ tells.
     (closed-trace c.args.traced script.interfaces inv.done inv.past c.loop-line.choices c.end_phase-2.new.choices inv.phase None [] (Ok tt) _ _ _ inv.ran
     (rw inv.same at (c.in_ok-end_phase.ensures.choices inv.past inv.phase inv.stands)) (inv.trace tells)
     (rw (inv.same, inv.traced) at (c.in_ok-end_phase.ensures.trace tells inv.past inv.phase inv.stands)))
+
+pub returns-in_err-end_phase-clause-ordered : goal.returns-in_err-end_phase-clause-ordered
+returns-in_err-end_phase-clause-ordered g c = λ told tells.
+    let inv = c.loop-line.invariant in
+    let script = c.args.script.now in
+    rw (plan-last script.interfaces (plan script) inv.done inv.phase script.lines c.loop-line.line-index (omega (arith, c.loop-line-test.false, ap length c.as_slice-line-items.ensures)) inv.unclosed inv.plan_is)
+    (closed-ordered c.args.traced script.interfaces inv.done inv.past c.loop-line.choices c.end_phase-2.new.choices inv.phase None [] (Err c.in_err-end_phase.field-0.0) _ _ _ _ _ _ inv.ran
+    (rw inv.same at (c.in_err-end_phase.ensures.choices inv.past inv.phase inv.stands)) (inv.out told)
+    (rw inv.same at (c.in_err-end_phase.ensures.out told inv.past inv.phase inv.stands)) (inv.trace tells)
+    (rw (inv.same, inv.traced) at (c.in_err-end_phase.ensures.trace tells inv.past inv.phase inv.stands))
+    (rw inv.same at (c.end_phase-2.ensures.ordered told tells inv.past inv.phase inv.stands)))
+
+pub returns-clause-ordered : goal.returns-clause-ordered
+returns-clause-ordered g c = λ told tells.
+    let inv = c.loop-line.invariant in
+    let script = c.args.script.now in
+    rw (plan-last script.interfaces (plan script) inv.done inv.phase script.lines c.loop-line.line-index (omega (arith, c.loop-line-test.false, ap length c.as_slice-line-items.ensures)) inv.unclosed inv.plan_is)
+    (closed-ordered c.args.traced script.interfaces inv.done inv.past c.loop-line.choices c.end_phase-2.new.choices inv.phase None [] (Ok tt) _ _ _ _ _ _ inv.ran
+    (rw inv.same at (c.in_ok-end_phase.ensures.choices inv.past inv.phase inv.stands)) (inv.out told)
+    (rw inv.same at (c.in_ok-end_phase.ensures.out told inv.past inv.phase inv.stands)) (inv.trace tells)
+    (rw (inv.same, inv.traced) at (c.in_ok-end_phase.ensures.trace tells inv.past inv.phase inv.stands))
+    (rw inv.same at (c.end_phase-2.ensures.ordered told tells inv.past inv.phase inv.stands)))
