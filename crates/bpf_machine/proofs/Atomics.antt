@@ -1,5 +1,5 @@
 -- Atomic operations.
-use Rattle.std.proofs.Common.{◌≡◌, ℕ, Option, Some, None, refl, sym, ap, subst, ◌∙◌}
+use Rattle.std.proofs.Common.{◌≡◌, ℕ, Some, None, refl, sym, ap, subst, ◌∙◌}
 use Rattle.std.specs.Prelude.{ℤ, pos}
 use Rattle.bpf_insn.specs.declared.insn.Insn.{Insn}
 use Rattle.bpf_insn.specs.declared.operation.Atomic.{Atomic}
@@ -11,7 +11,7 @@ use Rattle.bpf_insn.specs.Operation.{atomic_code}
 use Rattle.bpf_machine.specs.declared.environment.Env.{Env}
 use Rattle.bpf_machine.specs.Access.{address_of, load_of, store_of}
 use Rattle.bpf_machine.specs.Arithmetic.{operand_of}
-use Rattle.bpf_machine.specs.Instruction.{Next, Goes, Ends, Faults, register, atomic_of, atomic_act, exchange, after_exchange, exchanged, atomic_size, after_store, store_act}
+use Rattle.bpf_machine.specs.Instruction.{Faults, register, atomic_of, atomic_act, exchange, after_exchange, exchanged, atomic_size, after_store, store_act}
 use Rattle.bpf_machine.specs.State.{State}
 
 each_found : (op : Atomic) → atomic_of (pos (atomic_code op)) ≡ Some op

@@ -1,10 +1,9 @@
 -- Frames of the stack that are entered and left.
 use mathlib.Core.Path.{fun_ext}
-use Rattle.std.proofs.Common.{◌≡◌, ℕ, ◌+◌, ◌-◌, ◌*◌, ◌/◌, ◌%◌, ◌<◌, ◌≤◌, List, length, Bool, true, false, nat_le, nat_lt, ◌&&◌, ◌⊎◌, inl, inr, Option, Some, None, slice_get, refl, sym, ap, ◌∙◌, arith}
+use Rattle.std.proofs.Common.{◌≡◌, ℕ, ◌+◌, ◌-◌, ◌*◌, ◌/◌, ◌%◌, ◌<◌, ◌≤◌, List, length, Bool, true, false, nat_le, nat_lt, ◌&&◌, ◌⊎◌, inl, inr, None, refl, sym, ◌∙◌, arith}
 use Rattle.std.proofs.lemmas.Bool.{cases_lt}
 use Rattle.std.proofs.lemmas.Bool.Decides.{nat_tests}
-use Rattle.std.specs.Option.{option_or}
-use Rattle.flat_memory.specs.Memory.{Memory, masked, block, overlaid, written, without}
+use Rattle.flat_memory.specs.Memory.{masked, block, overlaid, written, without}
 use Rattle.flat_memory.specs.Numbers.{with_bytes}
 use Rattle.flat_memory.proofs.Laws.{masked-below, masked-shown, masked-hidden, masked-write, block-here, block-elsewhere, written-here, written-elsewhere, overlaid-write_upper, with_bytes-here}
 use Rattle.bpf_machine.specs.Machine.{memory_of, stack_mask}

@@ -1,8 +1,8 @@
 -- Numbers read from the regions, and writes to them.
-use Rattle.std.proofs.Common.{◌≡◌, ℕ, ◌+◌, ◌-◌, ◌*◌, ◌/◌, ◌%◌, ◌<◌, ◌≤◌, List, length, Bool, true, false, nat_le, nat_lt, ◌&&◌, slice_get, unwrap_or, refl, sym, ap, ◌∙◌, arith, inl, inr}
+use Rattle.std.proofs.Common.{◌≡◌, ℕ, ◌+◌, ◌-◌, ◌/◌, ◌%◌, ◌<◌, ◌≤◌, List, length, true, slice_get, refl, sym, ap, ◌∙◌, arith, inl, inr}
 use Rattle.std.proofs.lemmas.Bool.Decides.{nat_tests}
 use Rattle.std.proofs.lemmas.Option.{unwrap_or-slice_get}
-use Rattle.flat_memory.specs.Memory.{Memory, masked, block, overlaid, written, number_at}
+use Rattle.flat_memory.specs.Memory.{Memory, masked, block, written, number_at}
 use Rattle.flat_memory.specs.Numbers.{number_in, with_bytes}
 use Rattle.flat_memory.proofs.Laws.{number_at-bytes, masked-below, masked-number, masked-write, block_is-masked, block-elsewhere, written-here, written-number_elsewhere, overlaid-number_upper, overlaid-number_lower, overlaid-write_upper, overlaid-write_lower}
 use Rattle.bpf_machine.specs.Machine.{memory_of, stack_mask}

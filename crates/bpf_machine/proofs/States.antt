@@ -1,20 +1,18 @@
 -- States by their parts: what each access, call and exit makes of them.
-use Rattle.std.proofs.Common.{◌≡◌, ℕ, ◌+◌, ◌-◌, ◌*◌, ◌<◌, ◌≤◌, List, [], ◌∷◌, ◌++◌, length, take, drop, Bool, true, false, nat_le, nat_lt, ◌&&◌, ◌⊎◌, inl, inr, Option, Some, None, slice_get, slice_set, slice_index, drop-cons, refl, sym, ap, ◌∙◌, arith, length-append}
+use Rattle.std.proofs.Common.{◌≡◌, ℕ, ◌+◌, ◌-◌, ◌*◌, ◌<◌, ◌≤◌, List, [], ◌∷◌, ◌++◌, length, take, drop, Bool, true, false, nat_lt, ◌⊎◌, inl, inr, Some, None, slice_get, slice_set, slice_index, drop-cons, refl, sym, ap, ◌∙◌, arith, length-append}
 use Rattle.std.specs.Prelude.{ℤ, pos, ◌+ℤ◌, if◌then◌else◌}
 use Rattle.std.specs.Option.{option_or}
 use Rattle.std.proofs.lemmas.Bool.Decides.{nat_tests}
 use Rattle.std.proofs.lemmas.List.{append-nil, drop-drop, drop_all}
-use Rattle.flat_memory.specs.Memory.{Memory, masked, block, overlaid, written, without, number_at}
+use Rattle.flat_memory.specs.Memory.{overlaid, written, without, number_at}
 use Rattle.flat_memory.specs.Numbers.{number_in, with_bytes, stored, size_of}
 use Rattle.flat_memory.proofs.Bytes.{length-stored, length-with_bytes}
 use Rattle.flat_memory.proofs.Laws.{masked-below, block-here}
 use Rattle.bpf_insn.specs.declared.operation.Size.{Size}
-use Rattle.bpf_insn.specs.declared.operation.Size.TheVariants.{Byte, Half, Word, Double}
-use Rattle.byteorder.specs.Numbers.{length-bytes_low_first}
 use Rattle.bpf_machine.specs.declared.environment.Env.{Env}
 use Rattle.bpf_machine.specs.declared.scratch.Caller.{Caller}
 use Rattle.bpf_machine.specs.Access.{load_of, store_of, can_read, can_write, is_between, in_context, packet_load, context_load, context_bytes}
-use Rattle.bpf_machine.specs.Instruction.{Next, Goes, Ends, Faults, call_local, exit_to, exit_of}
+use Rattle.bpf_machine.specs.Instruction.{Goes, Ends, Faults, call_local, exit_to, exit_of}
 use Rattle.bpf_machine.specs.Machine.{memory_of, stack_mask}
 use Rattle.bpf_machine.specs.Run.{HoldsPacket}
 use Rattle.bpf_machine.specs.Stack.{in_frames, stack_load}

@@ -1,16 +1,15 @@
 -- What the instruction in a slot leads to.
-use Rattle.std.proofs.Common.{◌≡◌, ℕ, List, Option, Some, None, Bool, true, false, refl, sym, ap, ◌∙◌, subst, slice_get, arith}
+use Rattle.std.proofs.Common.{◌≡◌, ℕ, List, Some, None, true, false, refl, sym, ap, ◌∙◌, subst, slice_get, arith}
 use Rattle.std.specs.Prelude.{ℤ, pos, negsuc, ◌<ℤ◌, ◌≤ℤ◌}
 use Rattle.std.proofs.Math.IntN.{nat_abs}
 use Rattle.std.proofs.lemmas.Int.{ints}
 use Rattle.bpf_insn.specs.declared.insn.Insn.{Insn}
 use Rattle.bpf_insn.specs.declared.operation.Operation.{Operation}
-use Rattle.bpf_insn.specs.Code.{IsCode}
 use Rattle.bpf_insn.specs.Form.{Fits, form_of, IsListed}
 use Rattle.bpf_insn.specs.Operation.{opcode_of}
 use Rattle.bpf_machine.specs.declared.environment.Env.{Env}
-use Rattle.bpf_machine.specs.Instruction.{Next, act, slot_at}
-use Rattle.bpf_machine.specs.Run.{Steps, instruction_at, whole}
+use Rattle.bpf_machine.specs.Instruction.{Next, act}
+use Rattle.bpf_machine.specs.Run.{Steps, instruction_at}
 use Rattle.bpf_machine.specs.State.{State}
 
 some_insn : (a b : Insn) → Some a ≡ Some b → a ≡ b

@@ -1,5 +1,5 @@
 -- Which bytes may be read and written, and what a read and a write give.
-use Rattle.std.specs.Prelude.{ℕ, ℤ, ◌+◌, ◌-◌, ◌*◌, ◌/◌, ◌%◌, ◌^◌, nat_le, ◌&&◌, ◌||◌, if◌then◌else◌, Bool, List, [], ◌∷◌, ◌++◌, length, Option, Some, None}
+use Rattle.std.specs.Prelude.{ℕ, ℤ, ◌+◌, ◌-◌, ◌%◌, ◌^◌, nat_le, ◌&&◌, ◌||◌, if◌then◌else◌, Bool, List, ◌++◌, length, Option, Some, None}
 use Rattle.std.specs.Int.{w64, cast_unsigned}
 use Rattle.byteorder.specs.Endian.{little_bytes}
 use Rattle.bpf_insn.specs.declared.operation.Size.{Size}

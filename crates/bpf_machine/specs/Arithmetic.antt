@@ -1,6 +1,6 @@
 -- Arithmetic and tests of instructions (RFC 9669 §4), on registers of 64 bits.
-use Rattle.std.specs.Prelude.{ℕ, ℤ, pos, negsuc, zero, suc, ◌%◌, ◌^◌, ◌==◌, if◌then◌else◌, Bool, List, [], ◌∷◌, Option, slice_index, unsigned_abs, find}
-use Rattle.std.specs.Int.{w32, w64, cast_unsigned}
+use Rattle.std.specs.Prelude.{ℕ, ℤ, pos, negsuc, zero, suc, ◌%◌, ◌^◌, Bool, List, slice_index}
+use Rattle.std.specs.Int.{w64, cast_unsigned}
 use Rattle.bpf_alu.specs.declared.arithmetic.Op.{Op}
 use Rattle.bpf_alu.specs.declared.arithmetic.Op.TheVariants as op
 use Rattle.bpf_alu.specs.declared.comparison.Test.{Test}

@@ -1,6 +1,6 @@
 -- What each instruction does (RFC 9669).
-use Rattle.std.specs.Prelude.{ℕ, ℤ, pos, negsuc, zero, suc, ◌+◌, ◌*◌, ◌%◌, ◌^◌, ◌-◌, ◌+ℤ◌, ◌==◌, nat_lt, if◌then◌else◌, Bool, true, false, List, [], ◌∷◌, ◌++◌, length, take, drop, Option, Some, None, slice_get, slice_set, slice_index, find, unsigned_abs}
-use Rattle.std.specs.Int.{w32, w64, cast_unsigned}
+use Rattle.std.specs.Prelude.{ℕ, ℤ, pos, negsuc, ◌+◌, ◌*◌, ◌%◌, ◌^◌, ◌-◌, ◌+ℤ◌, ◌==◌, nat_lt, if◌then◌else◌, List, [], ◌∷◌, ◌++◌, length, take, drop, Option, Some, None, slice_get, slice_set, slice_index, find, unsigned_abs}
+use Rattle.std.specs.Int.{w32, cast_unsigned}
 use Rattle.bpf_alu.specs.declared.arithmetic.Op.TheVariants as op
 use Rattle.bpf_alu.specs.Numbers.{extend}
 use Rattle.bpf_alu.specs.Order.{swap}
@@ -13,7 +13,6 @@ use Rattle.bpf_insn.specs.declared.operation.Atomic.TheVariants as atomic
 use Rattle.bpf_insn.specs.declared.operation.Distance.TheVariants as distance
 use Rattle.bpf_insn.specs.declared.operation.Narrow.{Narrow}
 use Rattle.bpf_insn.specs.declared.operation.Narrow.TheVariants as narrow
-use Rattle.bpf_insn.specs.declared.operation.Operand.TheVariants.{Imm, Register}
 use Rattle.bpf_insn.specs.declared.operation.Operation.{Operation}
 use Rattle.bpf_insn.specs.declared.operation.Operation.TheVariants.{Alu, Neg, End, Jump, Branch, Call, Exit, Load, LoadSigned, Store, LoadWide}
 use Rattle.bpf_insn.specs.declared.operation.Operation.TheVariants as operation
@@ -27,7 +26,7 @@ use Rattle.flat_memory.specs.Numbers.{size_of}
 use Rattle.bpf_machine.specs.declared.environment.Env.{Env}
 use Rattle.bpf_machine.specs.declared.scratch.Caller.{Caller}
 use Rattle.bpf_machine.specs.Access.{address_of, load_of, store_of}
-use Rattle.bpf_machine.specs.Arithmetic.{imm_of, operand_of, op_of, second_of, operated, holds}
+use Rattle.bpf_machine.specs.Arithmetic.{operand_of, op_of, second_of, operated, holds}
 use Rattle.bpf_machine.specs.State.{State, frame_start, frame_size, empty_frame}
 
 -- What one instruction leads to: the state after it, the end of the run, or a fault, which changes nothing.

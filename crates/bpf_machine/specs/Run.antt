@@ -1,12 +1,11 @@
 -- Runs of a code, which end at the first instruction that ends them or faults, or as the budget is spent.
-use Rattle.std.specs.Prelude.{◌≡◌, ◌<◌, ◌⊎◌, ◌==◌, ℕ, ℤ, zero, suc, pos, ◌+◌, ◌%◌, ◌^◌, List, [], ◌∷◌, length, Option, Some, None, slice_get, slice_index, find, if◌then◌else◌}
+use Rattle.std.specs.Prelude.{◌≡◌, ◌<◌, ◌⊎◌, ◌==◌, ℕ, ℤ, zero, suc, ◌+◌, ◌%◌, ◌^◌, List, [], ◌∷◌, length, Option, Some, None, slice_get, slice_index, find, if◌then◌else◌}
 use Rattle.bpf_insn.specs.declared.insn.Insn.{Insn}
 use Rattle.bpf_insn.specs.declared.operation.Operation.{Operation}
 use Rattle.bpf_insn.specs.Operation.{opcode_of}
 use Rattle.xio.specs.declared.action.Action.{Action}
 use Rattle.xio.specs.declared.action.Action.TheVariants.{Aborted, Drop, Pass, Tx, Redirect}
 use Rattle.bpf_machine.specs.declared.environment.Env.{Env}
-use Rattle.bpf_machine.specs.declared.ending.Cause.{Cause}
 use Rattle.bpf_machine.specs.declared.ending.Cause.TheVariants as cause
 use Rattle.xio.specs.Action.{number}
 use Rattle.bpf_machine.specs.declared.ending.RunEnd.{RunEnd}

@@ -1,8 +1,6 @@
 -- The machine's state, and its regions of memory.
 use Rattle.std.specs.Prelude.{◌≤◌, ℕ, ℤ, pos, ◌+◌, ◌*◌, List, [], ◌∷◌, length, replicate}
-use Rattle.byteorder.specs.Endian.{little_bytes}
 use Rattle.bpf_machine.specs.declared.scratch.Caller.{Caller}
-use Rattle.bpf_machine.specs.declared.environment.Env.{Env}
 use Rattle.flat_memory.specs.Memory.{Memory, block, written}
 
 -- where the regions begin

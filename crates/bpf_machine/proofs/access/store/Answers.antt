@@ -1,9 +1,9 @@
-use Rattle.std.proofs.Common.{◌≡◌, ℕ, ◌+◌, ◌-◌, ◌<◌, ◌∙◌, List, length, true, false, Some, None, arith, ap, sym, subst}
+use Rattle.std.proofs.Common.{◌≡◌, ℕ, ◌+◌, ◌-◌, ◌<◌, ◌∙◌, List, length, true, false, Some, arith, ap, sym}
 use Rattle.std.specs.Prelude.{if◌then◌else◌}
 use Rattle.std.specs.Vec.{with_items}
 use Rattle.std.proofs.lemmas.List.{with_items_is}
 use Rattle.flat_memory.specs.Numbers.{with_bytes, stored, size_of}
-use Rattle.bpf_machine.specs.Access.{is_between, store_of}
+use Rattle.bpf_machine.specs.Access.{is_between}
 use Rattle.bpf_machine.specs.Stack.{in_frames}
 use Rattle.bpf_machine.specs.State.{Packet, packet_start, stack_start}
 use Rattle.bpf_machine.proofs.States.{parts, stored_in_packet, stored_outside}

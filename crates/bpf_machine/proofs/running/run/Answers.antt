@@ -1,6 +1,6 @@
-use Rattle.std.proofs.Common.{◌≡◌, ◌∙◌, refl, sym}
+use Rattle.std.proofs.Common.{refl}
 use Rattle.bpf_machine.specs.Machine.{state_of, ending_of}
-use Rattle.bpf_machine.specs.Run.{Ending, HoldsPacket, last_state}
+use Rattle.bpf_machine.specs.Run.{HoldsPacket}
 use Rattle.bpf_machine.specs.State.{State}
 use Rattle.bpf_machine.proofs.Answered.{is_run, is_only, last_is}
 use Rattle.bpf_machine.proofs.States.{holds}

@@ -1,5 +1,5 @@
-use Rattle.std.proofs.Common.{◌≡◌, ℕ, ◌+◌, ◌∙◌, arith, ap, sym, refl}
-use Rattle.std.specs.Prelude.{ℤ, pos}
+use Rattle.std.proofs.Common.{◌≡◌, ◌∙◌, arith, ap}
+use Rattle.std.specs.Prelude.{pos}
 use Rattle.std.specs.Int.{w64, cast_unsigned, cast_signed}
 use Rattle.std.proofs.lemmas.Int.{ints}
 use Rattle.bpf_machine.specs.declared.scratch.Scratch.{Scratch}

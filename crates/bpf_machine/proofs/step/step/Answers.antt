@@ -1,4 +1,4 @@
-use Rattle.std.proofs.Common.{◌≡◌, ℕ, ◌∙◌, List, length, slice_get, Some, None, arith, ap, sym, refl, subst}
+use Rattle.std.proofs.Common.{◌≡◌, ℕ, length, slice_get, Some, arith, sym, refl, subst}
 use Rattle.std.specs.Prelude.{ℤ, pos, ◌≤ℤ◌, false}
 use lib.Signed.{lt_z}
 use Rattle.std.specs.Int.{w64, cast_unsigned, cast_signed}
