@@ -10,3 +10,4 @@ pub mod Regions
 pub mod Access
 pub mod Ends
 pub mod ValueMemory
+pub mod Shapes

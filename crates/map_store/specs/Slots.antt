@@ -1,5 +1,5 @@
 -- A map is a list of slots, each empty or a pair of key and value.
-use Rattle.std.specs.Prelude.{ℕ, Bool, true, false, nat_eq, List, [], slice_index_or, slice_set, position, Option, Some, None}
+use Rattle.std.specs.Prelude.{ℕ, Bool, true, false, nat_eq, List, [], length, map, slice_index_or, slice_set, position, Option, Some, None}
 use Rattle.std.specs.Cmp.Lexicographic.{pointwise}
 use Rattle.map_store.specs.declared.spec.MapKind.{MapKind}
 use Rattle.map_store.specs.declared.spec.MapKind.TheVariants.{Hash, Array, PercpuHash, PercpuArray}
@@ -14,6 +14,19 @@ pub record Map : Type 0 where
   pub key_size : ℕ
   pub value_size : ℕ
   pub slots : List (Option Entry)
+
+-- what stays of a map for ever
+pub record Shape : Type 0 where
+  pub kind : MapKind
+  pub key_size : ℕ
+  pub value_size : ℕ
+  pub entries : ℕ
+
+abbrev pub shape_of : Map → Shape
+shape_of map = record { kind = map.kind; key_size = map.key_size; value_size = map.value_size; entries = length map.slots }
+
+abbrev pub shapes : List Map → List Shape
+shapes maps = map shape_of maps
 
 -- the map of this number; the one for a number that is none doesn't matter
 abbrev pub map_at : List Map → ℕ → Map

@@ -4,7 +4,7 @@ ghost use Rattle.byteorder.specs.Endian.{little_bytes};
 ghost use Rattle.flat_memory.specs.Memory.{written};
 ghost use Rattle.flat_memory.specs.Numbers.{size_of, stored};
 ghost use Rattle.map_store.specs.Initial.{IsMakeable, first_map};
-ghost use Rattle.map_store.specs.Slots.{has_key, place_of, least_empty, with_entry, emptied, is_shared, is_array};
+ghost use Rattle.map_store.specs.Slots.{has_key, place_of, least_empty, with_entry, emptied, is_shared, is_array, shape_of};
 ghost use Rattle.map_store.specs.SlotsView.{IsFirst};
 
 use crate::buffers::{copy_at, first_keys, first_values};
@@ -117,6 +117,7 @@ impl Slots {
         ensures answer { result ≡ update_end self.old key.now flags }
         ensures done { result ≡ UpdateEnd.Done → self.new ≡ updated self.old key.now value.now }
         ensures refused { (result ≡ UpdateEnd.Done → ⊥) → self.new ≡ self.old }
+        ensures shape { shape_of self.new ≡ shape_of self.old }
     {
         if self.is_shared() {
             return UpdateEnd::ReadOnly;
@@ -145,6 +146,7 @@ impl Slots {
         ensures answer { result ≡ update_end self.old key.now flags }
         ensures done { result ≡ UpdateEnd.Done → self.new ≡ updated self.old key.now value.now }
         ensures refused { (result ≡ UpdateEnd.Done → ⊥) → self.new ≡ self.old }
+        ensures shape { shape_of self.new ≡ shape_of self.old }
     {
         if self.is_array() {
             return UpdateEnd::NoRoom;
@@ -165,6 +167,7 @@ impl Slots {
         ensures answer { result ≡ delete_end self.old key.now }
         ensures done { result ≡ DeleteEnd.Done → self.new ≡ deleted self.old key.now }
         ensures refused { (result ≡ DeleteEnd.Done → ⊥) → self.new ≡ self.old }
+        ensures shape { shape_of self.new ≡ shape_of self.old }
     {
         if self.is_shared() {
             return DeleteEnd::ReadOnly;
@@ -190,7 +193,8 @@ impl Slots {
     fn set_value(&mut self, place: usize, value: &[u8])
         requires place { place < length self.old.slots }
         requires value { length value.now ≡ self.old.value_size }
-        ensures { (key : List ℕ) → has_key key (slice_index_or self.old.slots place None) ≡ true → self.new ≡ record self.old { slots = with_entry self.old.slots place (record { key = key; value = value.now }) } }
+        ensures entry { (key : List ℕ) → has_key key (slice_index_or self.old.slots place None) ≡ true → self.new ≡ record self.old { slots = with_entry self.old.slots place (record { key = key; value = value.now }) } }
+        ensures shape { shape_of self.new ≡ shape_of self.old }
     {
         copy_at(&mut self.values, place * self.stride, value);
     }
@@ -252,6 +256,7 @@ impl Slots {
         ensures memory { result ≡ true → values_in self.new ≡ written (values_in self.old) offset (stored size value) }
         ensures within { result ≡ true → offset + size_of size ≤ 4194304 }
         ensures refused { result ≡ false → self.new ≡ self.old }
+        ensures shape { shape_of self.new ≡ shape_of self.old }
     {
         if self.is_shared() {
             return false;

@@ -2,7 +2,7 @@ ghost use Rattle.std.specs.Prelude.{◌≡◌, ◌+◌, ◌<◌, ◌≤◌, true
 ghost use Rattle.flat_memory.specs.Memory.{written};
 ghost use Rattle.flat_memory.specs.Numbers.{size_of, stored};
 ghost use Rattle.map_store.specs.Initial.{AreMakeable, first_map};
-ghost use Rattle.map_store.specs.Slots.{map_at, with_map};
+ghost use Rattle.map_store.specs.Slots.{map_at, with_map, shapes};
 
 use crate::slots::Slots;
 use crate::spec::MapSpec;
@@ -121,6 +121,7 @@ impl Store {
         ensures answer { result ≡ update_end (map_at self.old map) key.now flags }
         ensures done { result ≡ UpdateEnd.Done → self.new ≡ with_map self.old map (updated (map_at self.old map) key.now value.now) }
         ensures refused { (result ≡ UpdateEnd.Done → ⊥) → self.new ≡ self.old }
+        ensures shapes { shapes self.new ≡ shapes self.old }
     {
         self.maps[map as usize].update(key, value, flags)
     }
@@ -132,6 +133,7 @@ impl Store {
         ensures answer { result ≡ delete_end (map_at self.old map) key.now }
         ensures done { result ≡ DeleteEnd.Done → self.new ≡ with_map self.old map (deleted (map_at self.old map) key.now) }
         ensures refused { (result ≡ DeleteEnd.Done → ⊥) → self.new ≡ self.old }
+        ensures shapes { shapes self.new ≡ shapes self.old }
     {
         self.maps[map as usize].delete(key)
     }
@@ -155,6 +157,7 @@ impl Store {
         ensures done { result ≡ true → self.new ≡ maps_written self.old address (stored size value) }
         ensures memory { result ≡ true → values self.new ≡ written (values self.old) address (stored size value) }
         ensures refused { result ≡ false → self.new ≡ self.old }
+        ensures shapes { shapes self.new ≡ shapes self.old }
     {
         let Some(offset) = address.checked_sub(VALUES) else {
             return false;

@@ -7,6 +7,7 @@ use Rattle.map_store.specs.declared.slots.Slots.TheInside.{Inside}
 use Rattle.map_store.proofs.Access.{IsRead, read_facts, written_at, write-shared, write-own}
 use Rattle.map_store.proofs.Changes.{bytes_after}
 use Rattle.map_store.proofs.ValueMemory.{values_after}
+use Rattle.map_store.proofs.Shapes.{same-shape}
 use Rattle.map_store.proofs.slots.Slots.store.Goals as goal
 
 pub returns-then-is_shared-clause-answer : goal.returns-then-is_shared-clause-answer
@@ -45,3 +46,6 @@ returns-clause-memory c = λ _.
     let after : Inside = record c.self.inside { values = with_items c.self.inside.values c.put_number.new.bytes } in
     rw (← c.self.view_is) (values_after c.self.inside after c.args.offset (stored c.args.size c.args.value) c.self.invariant (rw size facts) refl refl refl refl refl refl
     (bytes_after c.self.inside.values c.deref_mut.result.now c.put_number.new.bytes (stored c.args.size c.args.value) c.args.offset c.deref_mut.ensures.value c.put_number.ensures (rw size facts.within)))
+
+pub returns-clause-shape : goal.returns-clause-shape
+returns-clause-shape c = same-shape c.self.inside (with_items c.self.inside.values c.put_number.new.bytes) c.args.self.now c.self.view_is

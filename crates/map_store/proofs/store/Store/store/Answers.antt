@@ -5,6 +5,7 @@ use Rattle.map_store.specs.Values.{number_of, offset_of, can_write_in}
 use Rattle.flat_memory.proofs.Bytes.{length-stored}
 use Rattle.map_store.proofs.ValueMemory.{values_written}
 use Rattle.map_store.proofs.Regions.{map_read, write-below, write-nowhere, write-at, written-at}
+use Rattle.map_store.proofs.Shapes.{shapes-with}
 use Rattle.map_store.proofs.store.Store.store.Goals as goal
 
 pub returns-in_default-clause-answer : goal.returns-in_default-clause-answer
@@ -40,3 +41,10 @@ returns-clause-memory c = λ wrote.
     let size : length (stored c.args.size c.args.value) ≡ size_of c.args.size = length-stored c.args.size c.args.value in
     rw (is.1, c.self.view_is) (values_written c.args.self.now c.index_mut.result.now c.store.new.self c.args.address (stored c.args.size c.args.value) is.0 within there
     (rw size (rw is.1 at (c.store.ensures.within wrote))) (rw is.1 at (c.store.ensures.memory wrote)))
+
+pub returns-clause-shapes : goal.returns-clause-shapes
+returns-clause-shapes c =
+    let is : (1073741824 ≤ c.args.address) × (c.in-Some.offset ≡ c.args.address - 1073741824) = c.in-Some.ensures in
+    let within : number_of c.args.address < length c.args.self.now = rw (c.len.ensures, c.self.inside.maps.ok.0, is.1, c.self.view_is) at c.if-number-len.false in
+    let there : map_at c.args.self.now (number_of c.args.address) ≡ c.index_mut.result.now = map_read c.args.self.now (number_of c.args.address) c.index_mut.result.now within (rw (is.1, c.self.view_is) at c.index_mut.ensures.value) in
+    rw (is.1, c.self.view_is) (shapes-with c.args.self.now (number_of c.args.address) c.index_mut.result.now c.store.new.self there c.store.ensures.shape)
