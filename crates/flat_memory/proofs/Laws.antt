@@ -1,16 +1,13 @@
 -- What is true of memory.
 use mathlib.Core.Path.{fun_ext}
-use Rattle.std.proofs.Common.{◌≡◌, ℕ, zero, suc, ◌+◌, ◌-◌, ◌/◌, ◌%◌, ◌^◌, ◌<◌, ◌≤◌, Bool, true, false, nat_le, List, [], ◌++◌, length, take, drop, get_or, slice_index, slice_get, Option, Some, None, unwrap_or, refl, ap, ◌∙◌, arith, ◌⊎◌, inl, inr, add-zero, add-suc, suc-add}
+use Rattle.std.proofs.Common.{◌&&◌, ◌≡◌, ℕ, zero, suc, ◌+◌, ◌-◌, ◌<◌, ◌≤◌, Bool, true, false, nat_le, List, ◌++◌, length, take, drop, get_or, slice_index, slice_get, Option, Some, None, unwrap_or, refl, ap, ◌∙◌, arith, ◌⊎◌, inl, inr, add-zero, add-suc, suc-add}
 use Rattle.std.proofs.lemmas.Bool.{cases_lt}
 use Rattle.std.proofs.lemmas.List.{get_or-append_right, get_or_append_left, get_or-take, get_or-drop, length-take-le}
 use Rattle.std.proofs.lemmas.Bool.Decides.{nat_tests}
 use Rattle.std.proofs.lemmas.Option.{gets}
-use Rattle.std.proofs.lemmas.List.{append-nil}
-use Rattle.std.proofs.Math.Nat.{div-one}
+use Rattle.std.proofs.Math.Seq.{drop-cons}
 use Rattle.std.specs.Option.{option_or}
-use Rattle.byteorder.specs.Endian.{little_bytes}
-use Rattle.byteorder.specs.Numbers.{length-bytes_low_first, little_from-bytes}
-use Rattle.flat_memory.specs.Memory.{Memory, masked, block, overlaid, written, number_at}
+use Rattle.flat_memory.specs.Memory.{Memory, masked, block, overlaid, written, number_at, bytes_at}
 use Rattle.flat_memory.specs.Numbers.{number_in, with_bytes}
 use Rattle.flat_memory.proofs.Bytes.{length-with_bytes}
 
@@ -34,7 +31,32 @@ number_at-bytes (suc n) a place m bytes same =
     let rest : number_at m (suc a) n ≡ number_in bytes (suc place) n = number_at-bytes n (suc a) (suc place) m bytes next in
     rw (byte, rest) refl
 
-or_none : (o : Option ℕ) → option_or o None ≡ o
+-- bytes are equal where they are one by one
+pub bytes_at-same : (n a b : ℕ) (m w : Memory) → ((i : ℕ) → i < n → m (a + i) ≡ w (b + i)) → bytes_at m a n ≡ bytes_at w b n
+unfolding bytes_at
+bytes_at-same zero a b m w same = refl
+bytes_at-same (suc n) a b m w same =
+    let byte : m a ≡ w b = simp add-zero at (same 0 (omega arith)) in
+    let next : (i : ℕ) → i < n → m (suc a + i) ≡ w (suc b + i) = λ i below. let more : suc i < suc n = omega arith in rw (suc-add a i, suc-add b i) (rw (add-suc a i, add-suc b i) at (same (suc i) more)) in
+    let rest : bytes_at m (suc a) n ≡ bytes_at w (suc b) n = bytes_at-same n (suc a) (suc b) m w next in
+    rw (byte, rest) refl
+
+-- a memory's bytes where those of a list stand one by one
+pub bytes_at-bytes : (n a place : ℕ) (m : Memory) (bytes : List ℕ) → place + n ≤ length bytes → ((i : ℕ) → i < n → unwrap_or (m (a + i)) 0 ≡ slice_index bytes (place + i)) → bytes_at m a n ≡ take n (drop place bytes)
+unfolding bytes_at
+bytes_at-bytes zero a place m bytes fits same = refl
+bytes_at-bytes (suc n) a place m bytes fits same =
+    let byte : unwrap_or (m a) 0 ≡ slice_index bytes place = simp add-zero at (same 0 (omega arith)) in
+    let next : (i : ℕ) → i < n → unwrap_or (m (suc a + i)) 0 ≡ slice_index bytes (suc place + i) = λ i below. let more : suc i < suc n = omega arith in rw (suc-add a i, suc-add place i) (rw (add-suc a i, add-suc place i) at (same (suc i) more)) in
+    let rest : bytes_at m (suc a) n ≡ take n (drop (suc place) bytes) = bytes_at-bytes n (suc a) (suc place) m bytes (omega arith) next in
+    rw (drop-cons bytes place 0 (omega arith), byte, rest) refl
+
+pub length-bytes_at : (m : Memory) (a n : ℕ) → length (bytes_at m a n) ≡ n
+unfolding bytes_at
+length-bytes_at m a zero = refl
+length-bytes_at m a (suc n) = ap suc (length-bytes_at m (suc a) n)
+
+pub or_none : (o : Option ℕ) → option_or o None ≡ o
 or_none None = refl
 or_none (Some x) = refl
 
@@ -84,13 +106,26 @@ masked-below start mask bytes a below =
     let test : nat_le start a ≡ false = grind (arith, nat_tests) in
     rw test refl
 
+masked-byte : (start : ℕ) (mask : ℕ → Bool) (bytes : List ℕ) (place n : ℕ) → place + n ≤ length bytes → ((i : ℕ) → i < n → mask (place + i) ≡ true)
+    → (i : ℕ) → i < n → unwrap_or (masked start mask bytes (start + place + i)) 0 ≡ slice_index bytes (place + i)
+masked-byte start mask bytes place n fits shown i below =
+    let here : start + place + i ≡ start + (place + i) = omega arith in
+    let within : place + i < length bytes = omega arith in
+    rw (here, masked-shown start mask bytes (place + i) (shown i below), get_within bytes (place + i) within) refl
+
+pub masked-past : (start : ℕ) (mask : ℕ → Bool) (bytes : List ℕ) (a : ℕ) → start + length bytes ≤ a → masked start mask bytes a ≡ None
+unfolding masked
+masked-past start mask bytes a past = elim (cases_bool (nat_le start a && mask (a - start))) [ inl test ↦ rw test (get_past bytes (a - start) (omega arith)) | inr test ↦ rw test refl ]
+
 -- a number in masked bytes is the number in the bytes
 pub masked-number : (start : ℕ) (mask : ℕ → Bool) (bytes : List ℕ) (place n : ℕ) → place + n ≤ length bytes → ((i : ℕ) → i < n → mask (place + i) ≡ true)
     → number_at (masked start mask bytes) (start + place) n ≡ number_in bytes place n
-masked-number start mask bytes place n fits shown = number_at-bytes n (start + place) place (masked start mask bytes) bytes (λ i below.
-    let here : start + place + i ≡ start + (place + i) = omega arith in
-    let within : place + i < length bytes = omega arith in
-    rw (here, masked-shown start mask bytes (place + i) (shown i below), get_within bytes (place + i) within) refl)
+masked-number start mask bytes place n fits shown = number_at-bytes n (start + place) place (masked start mask bytes) bytes (masked-byte start mask bytes place n fits shown)
+
+-- bytes in masked bytes are those of the list
+pub masked-bytes : (start : ℕ) (mask : ℕ → Bool) (bytes : List ℕ) (place n : ℕ) → place + n ≤ length bytes → ((i : ℕ) → i < n → mask (place + i) ≡ true)
+    → bytes_at (masked start mask bytes) (start + place) n ≡ take n (drop place bytes)
+masked-bytes start mask bytes place n fits shown = bytes_at-bytes n (start + place) place (masked start mask bytes) bytes fits (masked-byte start mask bytes place n fits shown)
 
 pub index_here : (bytes others : List ℕ) (place k : ℕ) → place + length others ≤ length bytes → k < length others → slice_index (with_bytes bytes place others) (place + k) ≡ slice_index others k
 unfolding with_bytes
@@ -193,15 +228,6 @@ pub block_is-masked : (start : ℕ) (bytes : List ℕ) → block start bytes ≡
 unfolding block masked
 block_is-masked start bytes = fun_ext (λ a. elim (cases_bool (nat_le start a)) [ inl above ↦ rw above refl | inr below ↦ rw below refl ])
 
--- a number in two memories, where one of them has no byte
-pub overlaid-number_upper : (upper lower : Memory) (a n : ℕ) → ((i : ℕ) → i < n → lower (a + i) ≡ None) → number_at (overlaid upper lower) a n ≡ number_at upper a n
-unfolding overlaid
-overlaid-number_upper upper lower a n none = number_at-same n a a (overlaid upper lower) upper (λ i below. rw (none i below) (or_none (upper (a + i))))
-
-pub overlaid-number_lower : (upper lower : Memory) (a n : ℕ) → ((i : ℕ) → i < n → upper (a + i) ≡ None) → number_at (overlaid upper lower) a n ≡ number_at lower a n
-unfolding overlaid
-overlaid-number_lower upper lower a n none = number_at-same n a a (overlaid upper lower) lower (λ i below. rw (none i below) refl)
-
 -- a write to the upper of two memories, and one to the lower where the upper has no byte
 pub overlaid-write_upper : (upper lower : Memory) (a : ℕ) (bytes : List ℕ) → overlaid (written upper a bytes) lower ≡ written (overlaid upper lower) a bytes
 unfolding overlaid written
@@ -223,23 +249,3 @@ overlaid-write_lower upper lower a bytes none = fun_ext (λ x. elim (cases_range
       let clear : upper x ≡ None = rw is at (none (x - a) (omega arith)) in
       lower_here upper lower a bytes x clear
 ])
-
-number_back : (n value : ℕ) → number_in (little_bytes n value) 0 n ≡ value % 256 ^ n
-unfolding number_in
-number_back n value =
-    let e : little_bytes n value ++ [] ≡ little_bytes n value = append-nil (little_bytes n value) in
-    let whole : value / 256 ^ 0 % 256 ^ n ≡ value % 256 ^ n = ap (λ (x : ℕ). x % 256 ^ n) (div-one value) in
-    rw e at (little_from-bytes n 0 value []) ∙ whole
-
--- what is read where it was written, and elsewhere
-pub written-number : (memory : Memory) (a n value : ℕ) → number_at (written memory a (little_bytes n value)) a n ≡ value % 256 ^ n
-written-number memory a n value =
-    let long : length (little_bytes n value) ≡ n = length-bytes_low_first 0 n value in
-    let read : number_at (written memory a (little_bytes n value)) a n ≡ number_in (little_bytes n value) 0 n = number_at-bytes n a 0 (written memory a (little_bytes n value)) (little_bytes n value) (λ i below.
-    let within : i < length (little_bytes n value) = omega arith in
-    let zero : 0 + i ≡ i = omega arith in
-    rw (zero, written-here memory a (little_bytes n value) i within, get_within (little_bytes n value) i within) refl) in
-    read ∙ number_back n value
-
-pub written-number_elsewhere : (memory : Memory) (a n b : ℕ) (bytes : List ℕ) → (a + n ≤ b) ⊎ (b + length bytes ≤ a) → number_at (written memory b bytes) a n ≡ number_at memory a n
-written-number_elsewhere memory a n b bytes apart = number_at-same n a a (written memory b bytes) memory (λ i below. written-elsewhere memory b bytes (a + i) (elim apart [ inl before ↦ inl (omega arith) | inr behind ↦ inr (omega arith) ]))

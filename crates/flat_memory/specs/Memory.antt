@@ -1,13 +1,9 @@
 -- Memory is a function from addresses to bytes, with None where there is no byte.
-use Rattle.std.specs.Prelude.{ℕ, zero, suc, ◌+◌, ◌-◌, ◌*◌, Bool, ◌&&◌, nat_le, nat_lt, if◌then◌else◌, List, slice_get, Option, None, unwrap_or}
+use Rattle.std.specs.Prelude.{ℕ, zero, suc, ◌+◌, ◌-◌, ◌*◌, Bool, ◌&&◌, nat_le, nat_lt, if◌then◌else◌, List, [], ◌∷◌, slice_get, Option, None, unwrap_or}
 use Rattle.std.specs.Option.{option_or}
 
 abbrev pub Memory : Type 0
 Memory = ℕ → Option ℕ
-
--- no byte anywhere
-unfoldable pub nothing : Memory
-nothing a = None
 
 -- of the bytes from an address on, those whose place passes the mask
 unfoldable pub masked : ℕ → (ℕ → Bool) → List ℕ → Memory
@@ -34,6 +30,7 @@ unfoldable pub number_at : Memory → ℕ → ℕ → ℕ
 number_at memory a zero = 0
 number_at memory a (suc n) = unwrap_or (memory a) 0 + 256 * number_at memory (suc a) n
 
--- the n bytes from an address on lie whole in the range
-unfoldable pub is_within : ℕ → ℕ → ℕ → ℕ → Bool
-is_within a n start size = nat_le start a && nat_le (a + n) (start + size)
+-- the n bytes from an address on; a byte that isn't there counts as 0
+unfoldable pub bytes_at : Memory → ℕ → ℕ → List ℕ
+bytes_at memory a zero = []
+bytes_at memory a (suc n) = unwrap_or (memory a) 0 ∷ bytes_at memory (suc a) n
