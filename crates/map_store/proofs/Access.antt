@@ -1,16 +1,16 @@
 -- Reads and writes at an offset among a map's values.
-use Rattle.std.proofs.Common.{◌≡◌, ℕ, ◌+◌, ◌*◌, ◌/◌, ◌%◌, ◌<◌, ◌≤◌, inl, inr, Bool, true, false, nat_le, nat_lt, ◌&&◌, if◌then◌else◌, List, length, slice_index, slice_get, Option, Some, None, unwrap_or, refl, sym, ap, ◌∙◌, arith}
-use Rattle.std.proofs.lemmas.Bool.{leb-true, cases_lt, cases_Bool, false≢true, lt-ltb, le-ltb}
+use Rattle.std.proofs.Common.{◌≡◌, ℕ, ◌+◌, ◌-◌, ◌*◌, ◌/◌, ◌%◌, ◌<◌, ◌≤◌, inl, inr, Bool, true, false, nat_le, nat_lt, ◌&&◌, if◌then◌else◌, List, length, take, drop, slice_index, slice_get, Option, Some, None, unwrap_or, refl, sym, ap, ◌∙◌, arith}
+use Rattle.std.proofs.lemmas.Bool.{leb-true, cases_lt, cases_Bool, false≢true, lt-ltb, le-ltb, lt-leb, le-leb}
 use Rattle.bpf_insn.specs.declared.operation.Size.{Size}
 use Rattle.std.proofs.lemmas.List.{get_or_past}
 use Rattle.std.proofs.lemmas.Nat.{row_fits, div-mul-add, mod-mul-add, div-add-mod', mod_below}
 use Rattle.std.proofs.lemmas.Option.{gets}
-use Rattle.flat_memory.specs.Memory.{number_at}
+use Rattle.flat_memory.specs.Memory.{number_at, bytes_at}
 use Rattle.flat_memory.specs.Numbers.{number_in, with_bytes, size_of}
-use Rattle.flat_memory.proofs.Laws.{number_at-bytes}
+use Rattle.flat_memory.proofs.Laws.{number_at-bytes, bytes_at-bytes}
 use Rattle.map_store.specs.Spec.{rounded}
 use Rattle.map_store.specs.Slots.{Map, is_shared}
-use Rattle.map_store.specs.Values.{slot_at, byte_at, values_in, can_read_in, load_in, can_write_in, map_written}
+use Rattle.map_store.specs.Values.{slot_at, byte_at, values_in, can_read_in, load_in, bytes_in, can_write_in, map_written}
 use Rattle.map_store.specs.SlotsView.{part, is_taken, slot_in, slots_in, map_of, HasBuffers}
 use Rattle.map_store.specs.declared.slots.Slots.TheInside.{Inside}
 use Rattle.map_store.proofs.Parts.{length-part, index-part}
@@ -67,6 +67,19 @@ pub can_read-taken : (s : Inside) (offset place byte n : ℕ) → HasBuffers s �
 unfolding can_read_in
 can_read-taken s offset place byte n ok is seen = rw (slot_at-is s offset place byte ok is, byte_at-is s offset place byte ok is, taken_slot s place seen, length-value_at s place ok is.room) refl
 
+-- tests of a byte and of a count that don't add them
+fits-count : (byte n size : ℕ) → byte ≤ size → nat_le n (size - byte) ≡ nat_le (byte + n) size
+fits-count byte n size below = elim (cases_lt (size - byte) n) [
+  | inl over ↦ let past : size < byte + n = omega arith in rw (lt-leb n (size - byte) over, lt-leb (byte + n) size past) refl
+  | inr fits ↦ let within : byte + n ≤ size = omega arith in rw (le-leb n (size - byte) fits, le-leb (byte + n) size within) refl
+]
+
+pub can_read-count : (s : Inside) (offset place byte n : ℕ) → HasBuffers s → IsSpot s offset place byte → is_taken s.taken.items place ≡ true → byte ≤ s.value_size → can_read_in (map_of s) offset n ≡ nat_le n (s.value_size - byte)
+can_read-count s offset place byte n ok is seen below = can_read-taken s offset place byte n ok is seen ∙ sym (fits-count byte n s.value_size below)
+
+pub can_read-behind : (s : Inside) (offset place byte n : ℕ) → HasBuffers s → IsSpot s offset place byte → is_taken s.taken.items place ≡ true → s.value_size < byte → can_read_in (map_of s) offset n ≡ nat_le byte s.value_size
+can_read-behind s offset place byte n ok is seen past = rw (lt-leb byte s.value_size past) (can_read-taken s offset place byte n ok is seen ∙ lt-leb (byte + n) s.value_size (omega arith))
+
 pub can_read-empty : (s : Inside) (offset place byte n : ℕ) → HasBuffers s → IsSpot s offset place byte → is_taken s.taken.items place ≡ false → can_read_in (map_of s) offset n ≡ false
 unfolding can_read_in
 can_read-empty s offset place byte n ok is unseen = rw (slot_at-is s offset place byte ok is, slot_in-empty s.key_size s.value_size s.keys.items s.values.items s.taken.items place unseen) refl
@@ -89,13 +102,17 @@ byte_read s offset place byte ok is seen small =
     let read : slice_get (value_at s place) byte ≡ Some (slice_index s.values.items offset) = rw is.sum (got ∙ ap (λ (x : ℕ). Some x) at_offset) in
     rw (slot_at-is s offset place byte ok is, byte_at-is s offset place byte ok is, taken_slot s place seen) read
 
--- the number of bytes of one value
-pub number_read : (s : Inside) (offset place byte n : ℕ) → HasBuffers s → IsSpot s offset place byte → is_taken s.taken.items place ≡ true → byte + n ≤ s.value_size → number_at (values_in (map_of s)) offset n ≡ number_in s.values.items offset n
-number_read s offset place byte n ok is seen fits = number_at-bytes n offset offset (values_in (map_of s)) s.values.items (λ i below.
+byte_read-each : (s : Inside) (offset place byte n : ℕ) → HasBuffers s → IsSpot s offset place byte → is_taken s.taken.items place ≡ true → byte + n ≤ s.value_size
+    → (i : ℕ) → i < n → unwrap_or (values_in (map_of s) (offset + i)) 0 ≡ slice_index s.values.items (offset + i)
+byte_read-each s offset place byte n ok is seen fits i below =
     let step : s.value_size ≤ s.stride = ok.step in
     let off : offset ≡ place * s.stride + byte = is.sum in
     let moved : IsSpot s (offset + i) place (byte + i) = record { within = is.within; sum = omega arith; small = omega arith; room = is.room } in
-    ap (λ (o : Option ℕ). unwrap_or o 0) (byte_read s (offset + i) place (byte + i) ok moved seen (omega arith)))
+    ap (λ (o : Option ℕ). unwrap_or o 0) (byte_read s (offset + i) place (byte + i) ok moved seen (omega arith))
+
+-- the number in bytes of one value
+pub number_read : (s : Inside) (offset place byte n : ℕ) → HasBuffers s → IsSpot s offset place byte → is_taken s.taken.items place ≡ true → byte + n ≤ s.value_size → number_at (values_in (map_of s)) offset n ≡ number_in s.values.items offset n
+number_read s offset place byte n ok is seen fits = number_at-bytes n offset offset (values_in (map_of s)) s.values.items (byte_read-each s offset place byte n ok is seen fits)
 
 -- a map after a write in a value
 pub written_at : (s : Inside) (offset place byte : ℕ) (others values' : List ℕ) → HasBuffers s → IsSpot s offset place byte → values' ≡ with_bytes s.values.items offset others → byte + length others ≤ s.value_size
@@ -133,6 +150,13 @@ unfolding load_in
 load_is s map offset size is ok can =
     let facts : IsRead s offset (size_of size) = read_facts s offset (size_of size) ok (rw (← is) at can) in
     rw can (ap (λ (x : ℕ). Some x) (rw (← is) (sym (number_read s offset _ _ (size_of size) ok facts.spot facts.seen facts.fits))))
+
+pub bytes_are : (s : Inside) (map : Map) (offset n : ℕ) → map_of s ≡ map → HasBuffers s → can_read_in map offset n ≡ true → Some (take n (drop offset s.values.items)) ≡ bytes_in map offset n
+unfolding bytes_in
+bytes_are s map offset n is ok can =
+    let facts : IsRead s offset n = read_facts s offset n ok (rw (← is) at can) in
+    let read : bytes_at (values_in (map_of s)) offset n ≡ take n (drop offset s.values.items) = bytes_at-bytes n offset offset (values_in (map_of s)) s.values.items facts.within (byte_read-each s offset _ _ n ok facts.spot facts.seen facts.fits) in
+    rw can (ap (λ (xs : List ℕ). Some xs) (rw (← is) (sym read)))
 
 and-false : (b : Bool) → (b && false) ≡ false
 and-false true = refl

@@ -2,13 +2,13 @@
 use Rattle.std.proofs.Common.{◌≡◌, ℕ, ◌+◌, ◌*◌, ◌<◌, ◌≤◌, inl, inr, Bool, true, false, nat_le, ◌&&◌, List, [], set, length, get_or, Some, None, refl, sym, ap, ◌∙◌, arith}
 use Rattle.std.proofs.lemmas.Bool.{cases_Bool, le-leb, lt-leb}
 use Rattle.std.proofs.lemmas.List.{get_or_read, get_or_past}
-use Rattle.flat_memory.specs.Memory.{number_at}
+use Rattle.flat_memory.specs.Memory.{number_at, bytes_at}
 use Rattle.flat_memory.specs.Numbers.{size_of}
-use Rattle.flat_memory.proofs.Laws.{number_at-same}
+use Rattle.flat_memory.proofs.Laws.{number_at-same, bytes_at-same}
 use Rattle.bpf_insn.specs.declared.operation.Size.{Size}
 use Rattle.map_store.specs.Spec.{rounded}
 use Rattle.map_store.specs.Slots.{Map, map_at, place_of}
-use Rattle.map_store.specs.Values.{values_start, map_room, number_of, offset_of, lookup_of, values, values_in, can_read, can_read_in, can_write, can_write_in, load_of, load_in, map_written, maps_written}
+use Rattle.map_store.specs.Values.{values_start, map_room, number_of, offset_of, lookup_of, values, values_in, can_read, can_read_in, can_write, can_write_in, load_of, load_in, bytes_of, bytes_in, map_written, maps_written}
 
 and-false : (b : Bool) → (b && false) ≡ false
 and-false true = refl
@@ -73,6 +73,23 @@ load-at maps map address size above is small = elim (cases_Bool (can_read_in map
       let number : number_at (values maps) address (size_of size) ≡ number_at (values_in map) (offset_of address) (size_of size) =
       number_at-same (size_of size) address (offset_of address) (values maps) (values_in map) (λ i below. byte_at maps address i above (omega arith) ∙ ap (λ (m : Map). values_in m (offset_of address + i)) is) in
       rw (read-at maps address (size_of size) above, is, can, number) refl
+]
+
+pub bytes-none : (maps : List Map) (address n : ℕ) → can_read maps address n ≡ false → bytes_of maps address n ≡ None
+unfolding bytes_of
+bytes-none maps address n none = rw none refl
+
+pub bytes-at : (maps : List Map) (map : Map) (address n : ℕ) → values_start ≤ address → map_at maps (number_of address) ≡ map
+    → (can_read_in map (offset_of address) n ≡ true → offset_of address + n ≤ 4194304)
+    → bytes_of maps address n ≡ bytes_in map (offset_of address) n
+unfolding bytes_of bytes_in
+bytes-at maps map address n above is small = elim (cases_Bool (can_read_in map (offset_of address) n)) [
+  | inr none ↦ rw (read-at maps address n above, is, none) refl
+  | inl can ↦
+      let room : offset_of address + n ≤ 4194304 = small can in
+      let bytes : bytes_at (values maps) address n ≡ bytes_at (values_in map) (offset_of address) n =
+      bytes_at-same n address (offset_of address) (values maps) (values_in map) (λ i below. byte_at maps address i above (omega arith) ∙ ap (λ (m : Map). values_in m (offset_of address + i)) is) in
+      rw (read-at maps address n above, is, can, bytes) refl
 ]
 
 pub lookup-some : (maps : List Map) (number : ℕ) (map : Map) (key : List ℕ) (place : ℕ) → map_at maps number ≡ map → place_of key map.slots ≡ Some place → lookup_of maps number key ≡ Some (values_start + number * map_room + place * rounded map.value_size)

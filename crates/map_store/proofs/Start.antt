@@ -78,6 +78,13 @@ in_range spec none =
     let entries : (1 ≤ spec.max_entries) × (spec.max_entries ≤ 1048576) = between 1 1048576 spec.max_entries broken.2 in
     record { key = not-false (has_key_size spec.kind spec.key_size) broken.0; value_least = value.0; value_most = value.1; entries_least = entries.0; entries_most = entries.1 }
 
+-- no kind has keys of more than 512 bytes
+pub key_most : (kind : MapKind) (size : ℕ) → has_key_size kind size ≡ true → size ≤ 512
+key_most Array size has = omega (arith, eqb-true size 4 has)
+key_most PercpuArray size has = omega (arith, eqb-true size 4 has)
+key_most Hash size has = leb-true size 512 (and_parts (nat_le 1 size) (nat_le size 512) has).1
+key_most PercpuHash size has = leb-true size 512 (and_parts (nat_le 1 size) (nat_le size 512) has).1
+
 -- an array has keys of 4 bytes
 pub four_bytes : (kind : MapKind) (size : ℕ) → has_key_size kind size ≡ true → is_array kind ≡ true → size ≡ 4
 four_bytes Array size has array = eqb-true size 4 has

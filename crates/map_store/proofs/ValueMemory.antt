@@ -75,6 +75,8 @@ buffers_after s t offset bytes ok kind key value stride keys taken wrote fits =
       some = rw stride ok.some;
       room = rw long ok.room;
       keys_room = rw keys ok.keys_room;
+      key_small = rw key ok.key_small;
+      value_small = rw value ok.value_small;
       array = rw (kind, key) ok.array;
       indices = rw (kind, taken, keys) ok.indices;
     }

@@ -52,6 +52,8 @@ pub record HasBuffers (s : Inside) : Type 0 where
   pub some : 0 < s.stride
   pub room : length s.values.items ≤ 4194304
   pub keys_room : length s.keys.items ≤ 4194304
+  pub key_small : s.key_size ≤ 512
+  pub value_small : s.value_size ≤ 65536
   pub array : is_array s.kind ≡ true → s.key_size ≡ 4
   pub indices : is_array s.kind ≡ true → (place : ℕ) → place < length s.taken.items → (is_taken s.taken.items place ≡ true) × (part 4 4 s.keys.items place ≡ little_bytes 4 place)
 

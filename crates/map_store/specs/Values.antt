@@ -1,7 +1,7 @@
 -- The values of live slots stand at fixed addresses: slot s of map m at 0x40000000 + m * 0x01000000 + s * the rounded value size.
 use Rattle.std.specs.Prelude.{ℕ, ◌+◌, ◌-◌, ◌*◌, ◌/◌, ◌%◌, Bool, false, not, ◌&&◌, nat_le, List, length, slice_get, slice_index_or, slice_set, Option, Some, None, if◌then◌else◌}
 use Rattle.std.specs.Option.{option_map}
-use Rattle.flat_memory.specs.Memory.{Memory, number_at}
+use Rattle.flat_memory.specs.Memory.{Memory, number_at, bytes_at}
 use Rattle.flat_memory.specs.Numbers.{with_bytes, size_of}
 use Rattle.bpf_insn.specs.declared.operation.Size.{Size}
 use Rattle.map_store.specs.Spec.{rounded}
@@ -54,6 +54,10 @@ can_read_in map offset n = has_bytes (slot_at map offset) (byte_at map offset) n
 unfoldable pub load_in : Map → ℕ → Size → Option ℕ
 load_in map offset size = if can_read_in map offset (size_of size) then Some (number_at (values_in map) offset (size_of size)) else None
 
+-- the n bytes from an offset on
+unfoldable pub bytes_in : Map → ℕ → ℕ → Option (List ℕ)
+bytes_in map offset n = if can_read_in map offset n then Some (bytes_at (values_in map) offset n) else None
+
 unfoldable pub can_write_in : Map → ℕ → ℕ → Bool
 can_write_in map offset n = can_read_in map offset n && not (is_shared map.kind)
 
@@ -71,6 +75,10 @@ can_write maps address n = nat_le values_start address && can_write_in (map_at m
 -- the number that a load gives
 unfoldable pub load_of : List Map → ℕ → Size → Option ℕ
 load_of maps address size = if can_read maps address (size_of size) then Some (number_at (values maps) address (size_of size)) else None
+
+-- the n bytes from an address on
+unfoldable pub bytes_of : List Map → ℕ → ℕ → Option (List ℕ)
+bytes_of maps address n = if can_read maps address n then Some (bytes_at (values maps) address n) else None
 
 -- a slot with bytes written over its value
 abbrev pub slot_written : Option Entry → ℕ → List ℕ → Option Entry

@@ -20,6 +20,7 @@ pub(crate) fn first_key(keys: &[u8], taken: &[bool], key: &[u8]) -> Option<usize
 }
 
 /// Whether the key stands at this byte.
+#[inline]
 fn is_at(keys: &[u8], start: usize, key: &[u8]) -> bool
     requires { start + length key.now ≤ length keys.now }
     ensures { result ≡ pointwise nat_eq (take (length key.now) (drop start keys.now)) key.now }

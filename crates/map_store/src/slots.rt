@@ -1,5 +1,6 @@
 ghost use Rattle.std.specs.Prelude.{◌≡◌, ◌+◌, ◌*◌, ◌<◌, ◌≤◌, ℕ, List, true, false, nat_eq, length, slice_index_or, None, IfSome, IfOk};
 ghost use Rattle.std.specs.Cmp.Lexicographic.{pointwise};
+ghost use Rattle.std.specs.Option.{option_copied};
 ghost use Rattle.byteorder.specs.Endian.{little_bytes};
 ghost use Rattle.flat_memory.specs.Memory.{written};
 ghost use Rattle.flat_memory.specs.Numbers.{size_of, stored};
@@ -42,7 +43,7 @@ impl Model for Slots {
 
 impl Slots {
     ghost use Rattle.map_store.specs.Answers.{update_end, updated, delete_end, deleted};
-    ghost use Rattle.map_store.specs.Values.{can_read_in, load_in, can_write_in, map_written, values_in};
+    ghost use Rattle.map_store.specs.Values.{can_read_in, load_in, bytes_in, can_write_in, map_written, values_in};
     ghost use Rattle.map_store.specs.Spec.{rounded, slot_size};
 
     /// The slots of a map as they are at first.
@@ -64,19 +65,24 @@ impl Slots {
         })
     }
 
+    #[inline]
     pub(crate) fn key_size(&self) -> usize
-        ensures { result ≡ self.now.key_size }
+        ensures size { result ≡ self.now.key_size }
+        ensures small { result ≤ 512 }
     {
         self.key_size
     }
 
+    #[inline]
     pub(crate) fn value_size(&self) -> usize
-        ensures { result ≡ self.now.value_size }
+        ensures size { result ≡ self.now.value_size }
+        ensures small { result ≤ 65536 }
     {
         self.value_size
     }
 
     /// The place of a key.
+    #[inline]
     pub(crate) fn place_of(&self, key: &[u8]) -> Option<usize>
         requires { length key.now ≡ self.now.key_size }
         ensures place { result ≡ place_of key.now self.now.slots }
@@ -90,6 +96,7 @@ impl Slots {
     }
 
     /// Where the value of a slot begins among the values.
+    #[inline]
     pub(crate) fn offset_of(&self, place: usize) -> u32
         requires { place < length self.now.slots }
         ensures offset { result ≡ place * rounded self.now.value_size }
@@ -98,12 +105,14 @@ impl Slots {
         (place * self.stride) as u32
     }
 
+    #[inline]
     fn is_shared(&self) -> bool
         ensures { result ≡ is_shared self.now.kind }
     {
         self.kind.is_shared()
     }
 
+    #[inline]
     fn is_array(&self) -> bool
         ensures { result ≡ is_array self.now.kind }
     {
@@ -222,8 +231,8 @@ impl Slots {
     }
 
     /// Whether all of so many bytes from an offset on lie in the value of one taken slot.
+    #[inline]
     fn has_bytes(&self, offset: u32, count: usize) -> bool
-        requires count { count ≤ 8 }
         ensures answer { result ≡ can_read_in self.now offset count }
         ensures within { result ≡ true → offset + count ≤ 4194304 }
     {
@@ -235,10 +244,11 @@ impl Slots {
         if !self.taken[place] {
             return false;
         }
-        byte + count <= self.value_size
+        byte <= self.value_size && count <= self.value_size - byte
     }
 
     /// The number of this size at an offset among the values.
+    #[inline]
     pub(crate) fn load(&self, offset: u32, size: Size) -> Option<u64>
         ensures number { result ≡ load_in self.now offset size }
         ensures within { can_read_in self.now offset (size_of size) ≡ true → offset + size_of size ≤ 4194304 }
@@ -249,7 +259,22 @@ impl Slots {
         Some(number(&self.values, offset as usize, size))
     }
 
+    /// `count` bytes from an offset among the values on.
+    #[inline]
+    pub(crate) fn bytes(&self, offset: u32, count: usize) -> Option<&[u8]>
+        ensures bytes { option_copied result ≡ bytes_in self.now offset count }
+        ensures count { IfSome result (λ bytes. length bytes.now ≡ count) }
+        ensures within { can_read_in self.now offset count ≡ true → offset + count ≤ 4194304 }
+    {
+        if !self.has_bytes(offset, count) {
+            return None;
+        }
+        let start = offset as usize;
+        Some(&self.values[start..start + count])
+    }
+
     /// Writes the low bytes of a value at an offset among the values.
+    #[inline]
     pub(crate) fn store(&mut self, offset: u32, size: Size, value: u64) -> bool
         ensures answer { result ≡ can_write_in self.old offset (size_of size) }
         ensures done { result ≡ true → self.new ≡ map_written self.old offset (stored size value) }
@@ -270,6 +295,7 @@ impl Slots {
 }
 
 /// How many bytes a number of this size has.
+#[inline]
 fn bytes_of(size: Size) -> usize
     ensures { result ≡ size_of size }
 {
@@ -282,6 +308,7 @@ fn bytes_of(size: Size) -> usize
 }
 
 /// The place of an index among so many.
+#[inline]
 fn index_of(key: &[u8], count: usize) -> Option<usize>
     requires key { length key.now ≡ 4 }
     requires count { count < 4294967296 }

@@ -16,12 +16,14 @@ impl MapKind {
     ghost use Rattle.map_store.specs.Slots.{is_shared, is_array};
 
     /// Programs read maps of this kind and don't change them.
+    #[inline]
     pub(crate) fn is_shared(self) -> bool
         ensures { result ≡ is_shared self }
     {
         matches!(self, MapKind::Hash | MapKind::Array)
     }
 
+    #[inline]
     pub(crate) fn is_array(self) -> bool
         ensures { result ≡ is_array self }
     {

@@ -1,4 +1,5 @@
-ghost use Rattle.std.specs.Prelude.{◌≡◌, ◌+◌, ◌<◌, ◌≤◌, true, false, length, map, IfOk, List};
+ghost use Rattle.std.specs.Prelude.{◌≡◌, ◌+◌, ◌<◌, ◌≤◌, true, false, length, map, IfSome, IfOk, List};
+ghost use Rattle.std.specs.Option.{option_copied};
 ghost use Rattle.flat_memory.specs.Memory.{written};
 ghost use Rattle.flat_memory.specs.Numbers.{size_of, stored};
 ghost use Rattle.map_store.specs.Initial.{AreMakeable, first_map};
@@ -63,7 +64,7 @@ impl Model for Store {
 
 impl Store {
     ghost use Rattle.map_store.specs.Answers.{update_end, updated, delete_end, deleted};
-    ghost use Rattle.map_store.specs.Values.{lookup_of, load_of, can_write, maps_written, values};
+    ghost use Rattle.map_store.specs.Values.{lookup_of, load_of, bytes_of, can_write, maps_written, values};
 
     /// The maps of these specs as they are at first.
     pub fn new(alloc: Global, specs: &[MapSpec]) -> Result<Self, OutOfMemory>
@@ -84,24 +85,27 @@ impl Store {
         self.maps.len() as u32
     }
 
-    /// The size of a map's keys, in bytes.
+    /// The size of a map's keys, in bytes: at most 512.
     pub fn key_size(&self, map: u32) -> usize
         requires { map < length self.now }
-        ensures { result ≡ (map_at self.now map).key_size }
+        ensures size { result ≡ (map_at self.now map).key_size }
+        ensures small { result ≤ 512 }
     {
         self.maps[map as usize].key_size()
     }
 
-    /// The size of a map's values, in bytes.
+    /// The size of a map's values, in bytes: at most 65,536.
     pub fn value_size(&self, map: u32) -> usize
         requires { map < length self.now }
-        ensures { result ≡ (map_at self.now map).value_size }
+        ensures size { result ≡ (map_at self.now map).value_size }
+        ensures small { result ≤ 65536 }
     {
         self.maps[map as usize].value_size()
     }
 
     /// The address of the value of a key, if the key is there. An array has the keys 0 to its size less 1, 4 bytes each,
     /// the lowest first.
+    #[inline]
     pub fn lookup(&self, map: u32, key: &[u8]) -> Option<u32>
         requires map { map < length self.now }
         requires key { length key.now ≡ (map_at self.now map).key_size }
@@ -139,6 +143,7 @@ impl Store {
     }
 
     /// The number of this size at an address, if all its bytes lie in the value of one live slot.
+    #[inline]
     pub fn load(&self, address: u64, size: Size) -> Option<u64>
         ensures { result ≡ load_of self.now address size }
     {
@@ -150,8 +155,23 @@ impl Store {
         self.maps[number].load((offset % ROOM) as u32, size)
     }
 
+    /// `count` bytes from an address on, if all of them lie in the value of one live slot.
+    #[inline]
+    pub fn bytes(&self, address: u64, count: usize) -> Option<&[u8]>
+        ensures bytes { option_copied result ≡ bytes_of self.now address count }
+        ensures count { IfSome result (λ bytes. length bytes.now ≡ count) }
+    {
+        let offset = address.checked_sub(VALUES)?;
+        let number = (offset / ROOM) as usize;
+        if number >= self.maps.len() {
+            return None;
+        }
+        self.maps[number].bytes((offset % ROOM) as u32, count)
+    }
+
     /// Writes the low bytes of a value at an address, if all of them lie in the value of one live slot and programs may
     /// write there, and answers whether they do. Otherwise nothing changes.
+    #[inline]
     pub fn store(&mut self, address: u64, size: Size, value: u64) -> bool
         ensures answer { result ≡ can_write self.old address (size_of size) }
         ensures done { result ≡ true → self.new ≡ maps_written self.old address (stored size value) }

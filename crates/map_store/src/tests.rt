@@ -3,7 +3,7 @@ ghost use Rattle.map_store.specs.Slots.{map_at};
 
 use super::*;
 use bpf_insn::Size;
-use lists::Bytes;
+use lists::{Bytes, OutOfMemory};
 use std::alloc::Global;
 use std::test::Fail;
 
@@ -37,10 +37,10 @@ fn names_the_first_broken_rule(rt: HostRuntime) -> Result<(), Fail> {
     Ok(())
 }
 
-#[test]
+/// Constants of 5 bytes, two counters of 4 bytes, and a hash with no key.
 #[tactic(auto, unfolding(crate::specs::Spec::spec_rule, crate::specs::Spec::rounded))]
-fn moves_numbers_in_values(rt: HostRuntime) -> Result<(), Fail> {
-    let mut initial = Bytes::new(rt.alloc());
+fn three_maps(alloc: Global) -> Result<Store, OutOfMemory> {
+    let mut initial = Bytes::new(alloc);
     initial.append(&[1, 2, 3, 4, 5])?;
     let constants = MapSpec {
         kind: MapKind::Array,
@@ -49,15 +49,14 @@ fn moves_numbers_in_values(rt: HostRuntime) -> Result<(), Fail> {
         max_entries: 1,
         initial,
     };
-    let counters = MapSpec {
-        kind: MapKind::PercpuArray,
-        key_size: 4,
-        value_size: 4,
-        max_entries: 2,
-        initial: Bytes::new(rt.alloc()),
-    };
-    let specs = [constants, counters];
-    let mut store = Store::new(rt.alloc(), &specs)?;
+    let counters = spec_of(alloc, MapKind::PercpuArray, 4, 2);
+    let hash = spec_of(alloc, MapKind::PercpuHash, 4, 1);
+    Store::new(alloc, &[constants, counters, hash])
+}
+
+#[test]
+fn moves_numbers_in_values(rt: HostRuntime) -> Result<(), Fail> {
+    let mut store = three_maps(rt.alloc())?;
     // address, size, number
     let loads = [
         (0x3fff_ffff, Size::Byte, None),
@@ -68,6 +67,7 @@ fn moves_numbers_in_values(rt: HostRuntime) -> Result<(), Fail> {
         (0x4100_0008, Size::Word, Some(0)),
         (0x4100_0000, Size::Double, None),
         (0x4200_0000, Size::Byte, None),
+        (0x4300_0000, Size::Byte, None),
         (u64::MAX, Size::Byte, None),
     ];
     for (address, size, number) in loads {
@@ -76,6 +76,50 @@ fn moves_numbers_in_values(rt: HostRuntime) -> Result<(), Fail> {
     assert!(rt; !store.store(0x4000_0000, Size::Byte, 9));
     assert!(rt; store.store(0x4100_000a, Size::Half, 0x1_0203));
     assert_eq!(rt; store.load(0x4100_0008, Size::Word), Some(0x0203_0000));
+    Ok(())
+}
+
+fn has_bytes(store: &Store, address: u64, expected: &[u8]) -> bool {
+    match store.bytes(address, expected.len()) {
+        Some(bytes) => bytes == expected,
+        None => false,
+    }
+}
+
+/// Looks up the key at an address.
+fn lookup_at(store: &Store, map: u32, address: u64) -> Option<u32> {
+    if map >= store.len() {
+        return None;
+    }
+    let key = store.bytes(address, store.key_size(map))?;
+    store.lookup(map, key)
+}
+
+#[test]
+fn gives_bytes_of_values(rt: HostRuntime) -> Result<(), Fail> {
+    let mut store = three_maps(rt.alloc())?;
+    assert!(rt; store.store(0x4100_000a, Size::Half, 0x0203));
+    assert!(rt; has_bytes(&store, 0x4000_0000, &[1, 2, 3, 4, 5]));
+    assert!(rt; has_bytes(&store, 0x4000_0002, &[3, 4, 5]));
+    assert!(rt; has_bytes(&store, 0x4000_0005, &[]));
+    assert!(rt; has_bytes(&store, 0x4100_0008, &[0, 0, 3, 2]));
+    assert!(rt; lookup_at(&store, 1, 0x4100_0000) == Some(0x4100_0000));
+    // address, count: past the end of a value, in an empty slot, and where no map is
+    let missing = [
+        (0x4000_0000, 6),
+        (0x4000_0001, 5),
+        (0x4000_0005, 1),
+        (0x4000_0006, 0),
+        (0x4000_0000, usize::MAX),
+        (0x4100_0000, 12),
+        (0x4200_0000, 4),
+        (0x4300_0000, 4),
+        (0x3fff_ffff, 1),
+        (u64::MAX, 1),
+    ];
+    for (address, count) in missing {
+        assert!(rt; store.bytes(address, count).is_none());
+    }
     Ok(())
 }
 

@@ -4,7 +4,7 @@ use Rattle.map_store.specs.Spec.{rounded}
 use Rattle.map_store.specs.Slots.{is_array}
 use Rattle.map_store.specs.Initial.{first_map, first_value}
 use Rattle.map_store.specs.SlotsView.{part}
-use Rattle.map_store.proofs.Start.{AreInRange, in_range, four_bytes, rounded_above, first_slots-are, first_indices}
+use Rattle.map_store.proofs.Start.{AreInRange, in_range, key_most, four_bytes, rounded_above, first_slots-are, first_indices}
 use Rattle.map_store.proofs.Writes.{with_slots}
 use Rattle.map_store.proofs.slots.Slots.new.Goals as goal
 
@@ -31,6 +31,8 @@ invariant_of-result c =
       some = omega arith;
       room = omega arith;
       keys_room = omega arith;
+      key_small = key_most c.args.spec.now.kind c.args.spec.now.key_size ranges.key;
+      value_small = ranges.value_most;
       array = four_bytes c.args.spec.now.kind c.args.spec.now.key_size ranges.key;
       indices = first_indices c.args.spec.now c.in_ok-first_keys.field-0.items c.in_ok-vec.field-0.items taken' c.in_ok-first_keys.ensures.indices;
     }
