@@ -1,29 +1,34 @@
 -- The answer of a run.
 use Rattle.std.proofs.Common.{◌≡◌, ℕ, List, refl, sym, ap, ◌∙◌, subst}
 use Rattle.bpf_insn.specs.declared.insn.Insn.{Insn}
+use Rattle.map_store.specs.Slots.{Map}
 use Rattle.bpf_machine.specs.declared.ending.RunEnd.{RunEnd}
 use Rattle.bpf_machine.specs.declared.environment.Env.{Env}
 use Rattle.bpf_machine.specs.declared.flow.Halt.{Halt}
 use Rattle.bpf_machine.specs.declared.flow.Halt.TheVariants as halt
 use Rattle.bpf_machine.specs.Machine.{ending_of}
-use Rattle.bpf_machine.specs.Run.{EndsIn, Ending, Runs, IsRun, HoldsPacket, answer_of, last_state}
-use Rattle.bpf_machine.specs.State.{State, Packet, start}
+use Rattle.bpf_machine.specs.Run.{EndsIn, Ending, Runs, IsRun, IsEnd, HoldsPacket, answer_of, last_state}
+use Rattle.bpf_machine.specs.State.{State, Packet}
 
-pub last_is : (budget : ℕ) (end : Halt) (state : State) → last_state (ending_of budget end state) ≡ state
+last_is : (budget : ℕ) (end : Halt) (state : State) → last_state (ending_of budget end state) ≡ state
 last_is budget (halt.Ended used) state = refl
 last_is budget (halt.Faulted used) state = refl
 last_is budget halt.Spent state = refl
 
-pub is_run : (code : List Insn) (env : Env) (old new : Packet) (s : State) (ending : Ending) (answer : RunEnd) → s ≡ start old → EndsIn code env s 65536 ending → answer ≡ answer_of ending → HoldsPacket (last_state ending) new → IsRun code env old new answer
-is_run code env old new s ending answer from ends answered left = record {
+-- a run that ended in a state answers with its maps and its packet
+pub is_end : (end : Halt) (state : State) (answer : RunEnd) (maps : List Map) (packet : Packet) → answer ≡ answer_of (ending_of 65536 end state) → state.maps ≡ maps → HoldsPacket state packet → IsEnd (ending_of 65536 end state) answer maps packet
+is_end end state answer maps packet answered mapped left =
+    record { answered = answered; mapped = ap (λ (s : State). s.maps) (last_is 65536 end state) ∙ mapped; left = rw (last_is 65536 end state) left }
+
+pub is_run : (code : List Insn) (env : Env) (s t : State) (ending : Ending) (answer : RunEnd) (maps : List Map) (packet : Packet) → s ≡ t → EndsIn code env s 65536 ending → IsEnd ending answer maps packet → IsRun code env t answer maps packet
+is_run code env s t ending answer maps packet from ends end = record {
   ending = ending;
-  run = subst (λ (t : State). Runs code env t 65536 ending) from ends.run;
-  answered = answered;
-  left = left;
+  run = subst (λ (u : State). Runs code env u 65536 ending) from ends.run;
+  end = end;
 }
 
-pub is_only : (code : List Insn) (env : Env) (old new : Packet) (s : State) (ending : Ending) (answer : RunEnd) → s ≡ start old → EndsIn code env s 65536 ending → answer ≡ answer_of ending → HoldsPacket (last_state ending) new
-    → (other : Ending) → Runs code env (start old) 65536 other → (answer ≡ answer_of other) × HoldsPacket (last_state other) new
-is_only code env old new s ending answer from ends answered left other run =
-    let same : other ≡ ending = ends.only other (subst (λ (t : State). Runs code env t 65536 other) (sym from) run) in
-    (answered ∙ ap answer_of (sym same), subst (λ (e : Ending). HoldsPacket (last_state e) new) (sym same) left)
+pub is_only : (code : List Insn) (env : Env) (s t : State) (ending : Ending) (answer : RunEnd) (maps : List Map) (packet : Packet) → s ≡ t → EndsIn code env s 65536 ending → IsEnd ending answer maps packet
+    → (other : Ending) → Runs code env t 65536 other → IsEnd other answer maps packet
+is_only code env s t ending answer maps packet from ends end other run =
+    let same : other ≡ ending = ends.only other (subst (λ (u : State). Runs code env u 65536 other) (sym from) run) in
+    subst (λ (e : Ending). IsEnd e answer maps packet) (sym same) end

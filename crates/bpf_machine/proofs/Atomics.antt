@@ -11,7 +11,8 @@ use Rattle.bpf_insn.specs.Operation.{atomic_code}
 use Rattle.bpf_machine.specs.declared.environment.Env.{Env}
 use Rattle.bpf_machine.specs.Access.{address_of, load_of, store_of}
 use Rattle.bpf_machine.specs.Arithmetic.{operand_of}
-use Rattle.bpf_machine.specs.Instruction.{Faults, register, atomic_of, atomic_act, exchange, after_exchange, exchanged, atomic_size, after_store, store_act}
+use Rattle.bpf_machine.specs.Instruction.{atomic_of, atomic_act, exchange, after_exchange, exchanged, atomic_size, after_store, store_act}
+use Rattle.bpf_machine.specs.Next.{Faults, register}
 use Rattle.bpf_machine.specs.State.{State}
 
 each_found : (op : Atomic) → atomic_of (pos (atomic_code op)) ≡ Some op

@@ -3,6 +3,10 @@ pub mod Frames
 pub mod Listed
 pub mod Runs
 pub mod States
+pub mod Accesses
+pub mod Adjusting
+pub mod HelperCalls
 pub mod Steps
 pub mod Atomics
 pub mod Answered
+pub mod MapHelpers

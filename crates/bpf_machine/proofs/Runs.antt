@@ -3,7 +3,7 @@ use Rattle.std.proofs.Common.{◌≡◌, ℕ, zero, suc, ◌+◌, ◌<◌, ◌�
 use Rattle.std.proofs.lemmas.Bool.{cases_lt}
 use Rattle.bpf_insn.specs.declared.insn.Insn.{Insn}
 use Rattle.bpf_machine.specs.declared.environment.Env.{Env}
-use Rattle.bpf_machine.specs.Instruction.{Next, Goes, Ends, Faults}
+use Rattle.bpf_machine.specs.Next.{Next, Goes, Ends, Faults}
 use Rattle.bpf_machine.specs.Run.{Steps, Reaches, Runs, EndsIn, Ending, Ended, Faulted, Spent, instruction_at}
 use Rattle.bpf_machine.specs.State.{State}
 

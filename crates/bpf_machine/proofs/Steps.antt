@@ -1,22 +1,19 @@
 -- What the instruction in a slot leads to.
-use Rattle.std.proofs.Common.{◌≡◌, ℕ, List, Some, None, true, false, refl, sym, ap, ◌∙◌, subst, slice_get, arith}
+use Rattle.std.proofs.Common.{◌≡◌, ℕ, List, Some, None, true, false, refl, sym, ap, ◌∙◌, slice_get, arith}
 use Rattle.std.specs.Prelude.{ℤ, pos, negsuc, ◌<ℤ◌, ◌≤ℤ◌}
 use Rattle.std.proofs.Math.IntN.{nat_abs}
 use Rattle.std.proofs.lemmas.Int.{ints}
 use Rattle.bpf_insn.specs.declared.insn.Insn.{Insn}
 use Rattle.bpf_insn.specs.declared.operation.Operation.{Operation}
-use Rattle.bpf_insn.specs.Form.{Fits, form_of, IsListed}
 use Rattle.bpf_insn.specs.Operation.{opcode_of}
 use Rattle.bpf_machine.specs.declared.environment.Env.{Env}
-use Rattle.bpf_machine.specs.Instruction.{Next, act}
+use Rattle.bpf_machine.specs.Instruction.{act}
+use Rattle.bpf_machine.specs.Next.{Next}
 use Rattle.bpf_machine.specs.Run.{Steps, instruction_at}
 use Rattle.bpf_machine.specs.State.{State}
 
 some_insn : (a b : Insn) → Some a ≡ Some b → a ≡ b
 some_insn a b same = cc
-
-some_operation : (a b : Operation) → Some a ≡ Some b → a ≡ b
-some_operation a b same = cc
 
 pub pos_abs : (z : ℤ) → pos 0 ≤ℤ z → z ≡ pos (nat_abs z)
 pos_abs (pos n) above = refl
@@ -40,24 +37,10 @@ pub steps_to : (code : List Insn) (env : Env) (s : State) (insn : Insn) (operati
 unfolding Steps
 steps_to code env s insn operation outcome at is to = (insn, operation, at, is, sym to)
 
-pub steps_only : (code : List Insn) (env : Env) (s : State) (insn : Insn) (operation : Operation) (outcome : Next) → instruction_at code s.next ≡ Some insn
-    → ((other : Operation) → opcode_of other ≡ insn.opcode → Some operation ≡ Some other) → act code env s insn operation ≡ outcome → (other : Next) → Steps code env s other → other ≡ outcome
+pub steps_only : (code : List Insn) (env : Env) (s : State) (insn : Insn) (outcome : Next) → instruction_at code s.next ≡ Some insn
+    → ((operation : Operation) → opcode_of operation ≡ insn.opcode → act code env s insn operation ≡ outcome) → (other : Next) → Steps code env s other → other ≡ outcome
 unfolding Steps
-steps_only code env s insn operation outcome at only to other steps =
+steps_only code env s insn outcome at acts other steps =
     let same : steps.0 ≡ insn = some_insn steps.0 insn (sym steps.2 ∙ at) in
     let opcode : opcode_of steps.1 ≡ insn.opcode = steps.3 ∙ ap (λ (i : Insn). i.opcode) same in
-    let one : steps.1 ≡ operation = some_operation steps.1 operation (sym (only steps.1 opcode)) in
-    steps.4 ∙ ap (λ (i : Insn). act code env s i steps.1) same ∙ ap (λ (o : Operation). act code env s insn o) one ∙ to
-
--- the form of the operation that was found fits
-pub fitting : (insn : Insn) (operation : Operation) → IsListed insn → ((other : Operation) → opcode_of other ≡ insn.opcode → Some operation ≡ Some other) → Fits (form_of operation) insn
-fitting insn operation listed only =
-    let opcode : opcode_of listed.0 ≡ insn.opcode = sym listed.1.opcode in
-    let same : operation ≡ listed.0 = some_operation operation listed.0 (only listed.0 opcode) in
-    subst (λ (o : Operation). Fits (form_of o) insn) (sym same) listed.1
-
-pub not_none : (insn : Insn) → IsListed insn → ((other : Operation) → opcode_of other ≡ insn.opcode → None ≡ Some other) → ⊥
-not_none insn listed only =
-    let opcode : opcode_of listed.0 ≡ insn.opcode = sym listed.1.opcode in
-    let same : None ≡ Some listed.0 = only listed.0 opcode in
-    cc
+    steps.4 ∙ ap (λ (i : Insn). act code env s i steps.1) same ∙ acts steps.1 opcode

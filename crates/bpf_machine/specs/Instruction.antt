@@ -1,5 +1,5 @@
 -- What each instruction does (RFC 9669).
-use Rattle.std.specs.Prelude.{ℕ, ℤ, pos, negsuc, ◌+◌, ◌*◌, ◌%◌, ◌^◌, ◌-◌, ◌+ℤ◌, ◌==◌, nat_lt, if◌then◌else◌, List, [], ◌∷◌, ◌++◌, length, take, drop, Option, Some, None, slice_get, slice_set, slice_index, find, unsigned_abs}
+use Rattle.std.specs.Prelude.{ℕ, ℤ, pos, negsuc, ◌+◌, ◌*◌, ◌%◌, ◌^◌, ◌-◌, ◌+ℤ◌, ◌==◌, nat_lt, if◌then◌else◌, List, [], ◌∷◌, ◌++◌, length, take, drop, Option, Some, None, slice_get, slice_set, find, unsigned_abs}
 use Rattle.std.specs.Int.{w32, cast_unsigned}
 use Rattle.bpf_alu.specs.declared.arithmetic.Op.TheVariants as op
 use Rattle.bpf_alu.specs.Numbers.{extend}
@@ -27,26 +27,9 @@ use Rattle.bpf_machine.specs.declared.environment.Env.{Env}
 use Rattle.bpf_machine.specs.declared.scratch.Caller.{Caller}
 use Rattle.bpf_machine.specs.Access.{address_of, load_of, store_of}
 use Rattle.bpf_machine.specs.Arithmetic.{operand_of, op_of, second_of, operated, holds}
+use Rattle.bpf_machine.specs.Helpers.{helper_of, helper_act}
+use Rattle.bpf_machine.specs.Next.{Next, Goes, Ends, Faults, register, put, jumped, advanced}
 use Rattle.bpf_machine.specs.State.{State, frame_start, frame_size, empty_frame}
-
--- What one instruction leads to: the state after it, the end of the run, or a fault, which changes nothing.
-pub data Next : Type 0 where
-  Goes : State → Next
-  Ends : State → Next
-  Faults : State → Next
-
-abbrev pub register : State → ℕ → ℕ
-register s n = slice_index s.registers n
-
-abbrev pub put : State → ℕ → ℕ → State
-put s n value = record s { registers = slice_set s.registers n value }
-
--- so many slots further than the next one
-abbrev pub jumped : State → ℤ → State
-jumped s distance = record s { next = (s.next +ℤ pos 1) +ℤ distance }
-
-abbrev pub advanced : State → State
-advanced s = record s { next = s.next +ℤ pos 1 }
 
 -- the instruction goes on behind itself with a value in a register, or faults where there is none
 unfoldable pub after_load : State → ℕ → Option ℕ → Next
@@ -186,8 +169,9 @@ abbrev pub store_act : State → Insn → Size → Operand → Next
 store_act s insn size operand =
     after_store s (store_of s (address_of (register s insn.target) insn.offset) size (operand_of operand insn s.registers))
 
-abbrev pub call_act : State → Insn → Next
-call_act s insn = if insn.source == 1 then call_local s insn.imm else Faults s
+-- §4.3.1, §4.3.2: the source says whether a helper or a function of the program is called
+abbrev pub call_act : Env → State → Insn → Next
+call_act env s insn = if insn.source == 1 then call_local s insn.imm else helper_act env s (helper_of insn.imm)
 
 -- What an instruction does in a state whose next slot it stands in.
 abbrev pub act : List Insn → Env → State → Insn → Operation → Next
@@ -197,7 +181,7 @@ act code env s insn (End order) = Goes (advanced (put s insn.target (swap order 
 act code env s insn (Jump distance.Offset) = Goes (jumped s insn.offset)
 act code env s insn (Jump distance.Imm) = Goes (jumped s insn.imm)
 act code env s insn (Branch width test operand) = branch_act s insn width test operand
-act code env s insn Call = call_act s insn
+act code env s insn Call = call_act env s insn
 act code env s insn Exit = exit_of s
 act code env s insn (Load size) = load_act env s insn size
 act code env s insn (LoadSigned size) = load_signed_act env s insn size

@@ -2,6 +2,8 @@ pub mod State
 pub mod Stack
 pub mod Access
 pub mod Arithmetic
+pub mod Next
+pub mod Helpers
 pub mod Instruction
 pub mod Run
 pub mod Machine

@@ -9,8 +9,10 @@ use Rattle.bpf_machine.specs.declared.environment.Env.{Env}
 use Rattle.bpf_machine.specs.declared.ending.Cause.TheVariants as cause
 use Rattle.xio.specs.Action.{number}
 use Rattle.bpf_machine.specs.declared.ending.RunEnd.{RunEnd}
-use Rattle.bpf_machine.specs.Instruction.{Next, Goes, Ends, Faults, act, slot_at}
-use Rattle.bpf_machine.specs.State.{State, Packet, packet_start, start}
+use Rattle.map_store.specs.Slots.{Map}
+use Rattle.bpf_machine.specs.Instruction.{act, slot_at}
+use Rattle.bpf_machine.specs.Next.{Next, Goes, Ends, Faults}
+use Rattle.bpf_machine.specs.State.{State, Packet, packet_start}
 
 -- The second slot of a wide load is no instruction.
 abbrev pub whole : Option Insn → Option Insn
@@ -85,9 +87,14 @@ pub record HoldsPacket (s : State) (packet : Packet) : Type 0 where
 abbrev pub budget : ℕ
 budget = 65536
 
--- A run of the code on a packet gives this answer and leaves this packet.
-pub record IsRun (code : List Insn) (env : Env) (old new : Packet) (answer : RunEnd) : Type 0 where
-  pub ending : Ending
-  pub run : Runs code env (start old) budget ending
+-- the answer, the maps and the packet of a run that ended so
+pub record IsEnd (ending : Ending) (answer : RunEnd) (maps : List Map) (packet : Packet) : Type 0 where
   pub answered : answer ≡ answer_of ending
-  pub left : HoldsPacket (last_state ending) new
+  pub mapped : (last_state ending).maps ≡ maps
+  pub left : HoldsPacket (last_state ending) packet
+
+-- A run of the code from a state gives this answer and leaves these maps and this packet.
+pub record IsRun (code : List Insn) (env : Env) (s : State) (answer : RunEnd) (maps : List Map) (packet : Packet) : Type 0 where
+  pub ending : Ending
+  pub run : Runs code env s budget ending
+  pub end : IsEnd ending answer maps packet

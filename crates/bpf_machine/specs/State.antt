@@ -2,6 +2,7 @@
 use Rattle.std.specs.Prelude.{◌≤◌, ℕ, ℤ, pos, ◌+◌, ◌*◌, List, [], ◌∷◌, length, replicate}
 use Rattle.bpf_machine.specs.declared.scratch.Caller.{Caller}
 use Rattle.flat_memory.specs.Memory.{Memory, block, written}
+use Rattle.map_store.specs.Slots.{Map}
 
 -- where the regions begin
 abbrev pub packet_start : ℕ
@@ -13,13 +14,14 @@ stack_start = 0x20000000
 abbrev pub context_start : ℕ
 context_start = 0x30000000
 
--- The next instruction's slot, r0 to r10, the functions that wait for a callee, the innermost last, the bytes that
--- stand in memory, the packet's ends and the end of its buffer, and where a redirect goes.
+-- The next instruction's slot, r0 to r10, the functions that wait for a callee, the innermost last, the bytes of the
+-- packet and of the stack, the maps, the packet's ends and the end of its buffer, and where a redirect goes.
 pub record State : Type 0 where
   pub next : ℤ
   pub registers : List ℕ
   pub callers : List Caller
   pub memory : Memory
+  pub maps : List Map
   pub data_start : ℕ
   pub data_end : ℕ
   pub buffer_end : ℕ
@@ -52,12 +54,13 @@ empty_frame = replicate 512 0
 unfoldable pub start_registers : List ℕ
 start_registers = 0 ∷ context_start ∷ 0 ∷ 0 ∷ 0 ∷ 0 ∷ 0 ∷ 0 ∷ 0 ∷ 0 ∷ (frame_start 0 + frame_size) ∷ []
 
-unfoldable pub start : Packet → State
-start packet = record {
+unfoldable pub start : List Map → Packet → State
+start maps packet = record {
   next = pos 0;
   registers = start_registers;
   callers = [];
   memory = written (block packet_start packet.buffer) (frame_start 0) empty_frame;
+  maps = maps;
   data_start = packet_start + packet.data_start;
   data_end = packet_start + packet.data_end;
   buffer_end = packet_start + length packet.buffer;

@@ -1,4 +1,5 @@
-ghost use Rattle.std.specs.Prelude.{◌≡◌, ℕ, ℤ, pos};
+ghost use Rattle.std.specs.Prelude.{List, ◌≡◌, ℕ, ℤ, pos};
+ghost use Rattle.map_store.specs.Slots.{Map};
 ghost use Rattle.bpf_machine.specs.Instruction.{call_local, exit_of};
 ghost use Rattle.bpf_machine.specs.Machine.{state_of, next_of};
 ghost use Rattle.bpf_machine.specs.State.{Packet};
@@ -12,8 +13,8 @@ use crate::stack::{FRAME_DISTANCE, FRAME_SIZE, STACK_START, clear_frame};
 #[inline]
 #[tactic(auto, unfolding(crate::specs::Instruction::call_local))]
 pub(crate) fn enter(scratch: &mut Scratch, at: u32, distance: i32) -> Flow
-    ensures { (target : ℕ) (packet : Packet) → call_local (state_of (pos at) target scratch.old packet) distance
-        ≡ next_of (pos at) result (λ next. state_of next target scratch.new packet) }
+    ensures { (maps : List Map) (packet : Packet) → call_local (state_of (pos at) scratch.old maps packet) distance
+        ≡ next_of (pos at) result (λ next. state_of next scratch.new maps packet) }
 {
     if scratch.callers.is_full() {
         return Flow::Fault;
@@ -31,8 +32,8 @@ pub(crate) fn enter(scratch: &mut Scratch, at: u32, distance: i32) -> Flow
 #[inline]
 #[tactic(auto, unfolding(crate::specs::Instruction::exit_to))]
 pub(crate) fn leave(scratch: &mut Scratch, frame: &Frame) -> Flow
-    ensures { (at : ℤ) (target : ℕ) → exit_of (state_of at target scratch.old frame.now)
-        ≡ next_of at result (λ next. state_of next target scratch.new frame.now) }
+    ensures { (at : ℤ) (maps : List Map) → exit_of (state_of at scratch.old maps frame.now)
+        ≡ next_of at result (λ next. state_of next scratch.new maps frame.now) }
 {
     frame.bounds();
     let Some(caller) = scratch.callers.pop() else {

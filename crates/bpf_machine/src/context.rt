@@ -1,5 +1,6 @@
-ghost use Rattle.std.specs.Prelude.{◌≡◌};
-ghost use Rattle.bpf_machine.specs.Access.{context_bytes, context_load};
+ghost use Rattle.std.specs.Prelude.{IfSome, ◌≡◌, ◌≤◌, length};
+ghost use Rattle.std.specs.Option.{option_copied};
+ghost use Rattle.bpf_machine.specs.Access.{context_bytes, context_load, context_part};
 
 use crate::environment::Env;
 use crate::size::bytes_of;
@@ -21,9 +22,25 @@ pub(crate) fn load_context(env: &Env, start: u32, end: u32, address: u64, size: 
     Some(number(&context(env, start, end), place, size))
 }
 
+/// The bytes from an address on, where they stand in the context, whose bytes these are.
+#[inline]
+pub(crate) fn context_slice(context: &[u8], address: u64, count: usize) -> Option<&[u8]>
+    requires context { length context.now ≡ 24 }
+    requires count { count ≤ 65536 }
+    ensures bytes { option_copied result ≡ context_part context.now address count }
+    ensures count { IfSome result (λ bytes. length bytes.now ≡ count) }
+{
+    let place = address.checked_sub(CONTEXT_START)?;
+    if count > 24 || place > 24 - count as u64 {
+        return None;
+    }
+    let place = place as usize;
+    Some(&context[place..place + count])
+}
+
 /// The bytes of the context.
 #[inline]
-fn context(env: &Env, start: u32, end: u32) -> [u8; 24]
+pub(crate) fn context(env: &Env, start: u32, end: u32) -> [u8; 24]
     ensures { result ≡ context_bytes env.now start end }
 {
     let start = start.to_le_bytes();

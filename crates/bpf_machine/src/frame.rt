@@ -1,7 +1,8 @@
-ghost use Rattle.std.specs.Prelude.{◌≡◌, ◌+◌, ◌-◌, ◌*◌, ◌≤◌, [], ◌++◌, length, replicate, slice_range, if◌then◌else◌, Some, None, IfOk, vec_len};
+ghost use Rattle.std.specs.Prelude.{IfSome, ◌≡◌, ◌+◌, ◌-◌, ◌*◌, ◌≤◌, [], ◌++◌, length, replicate, slice_range, if◌then◌else◌, Some, None, IfOk, vec_len, false};
 ghost use Rattle.std.specs.Vec.{vec_capacity};
+ghost use Rattle.std.specs.Option.{option_copied};
 ghost use Rattle.flat_memory.specs.Numbers.{size_of, stored, with_bytes};
-ghost use Rattle.bpf_machine.specs.Access.{is_between, packet_load};
+ghost use Rattle.bpf_machine.specs.Access.{is_between, packet_load, packet_bytes};
 ghost use Rattle.bpf_machine.specs.State.{IsPacket, packet_start};
 
 use crate::size::bytes_of;
@@ -16,6 +17,9 @@ pub(crate) const PACKET_START: u64 = 0x1000_0000;
 
 /// How many bytes of zero stand in front of a packet and behind it.
 const MARGIN: usize = 256;
+
+/// How many bytes a program leaves of a packet at least.
+const LEAST: i64 = 14;
 
 /// How many bytes the largest packet and its margins have.
 const ROOM: usize = 0x4000;
@@ -102,8 +106,19 @@ impl Frame {
         ensures packet { IsPacket self.now }
         ensures number { result ≡ packet_load self.now address size }
     {
-        let place = self.place_of(address, size)?;
+        let place = self.place_of(address, bytes_of(size))?;
         Some(number(&self.buffer, place, size))
+    }
+
+    /// The bytes from an address on, where they stand in the packet.
+    #[inline]
+    pub(crate) fn slice(&self, address: u64, count: usize) -> Option<&[u8]>
+        requires { count ≤ 65536 }
+        ensures bytes { option_copied result ≡ packet_bytes self.now address count }
+        ensures count { IfSome result (λ bytes. length bytes.now ≡ count) }
+    {
+        let place = self.place_of(address, count as u64)?;
+        Some(&self.buffer[place..place + count])
     }
 
     /// Writes a number of this size at an address, where that is in the packet.
@@ -115,7 +130,7 @@ impl Frame {
         ensures after { self.new ≡
             (if result then record self.old { buffer = with_bytes self.old.buffer (address - packet_start) (stored size value) } else self.old) }
     {
-        let Some(place) = self.place_of(address, size) else {
+        let Some(place) = self.place_of(address, bytes_of(size)) else {
             return false;
         };
         put_number(&mut self.buffer, place, size, value);
@@ -124,19 +139,57 @@ impl Frame {
 
     /// The place in the buffer of an address, where so many bytes from there on are in the packet.
     #[inline]
-    fn place_of(&self, address: u64, size: Size) -> Option<usize>
+    fn place_of(&self, address: u64, count: u64) -> Option<usize>
+        requires { count ≤ 65536 }
         ensures packet { IsPacket self.now }
         ensures place { result ≡
-            (if is_between address (size_of size) (packet_start + self.now.data_start) (packet_start + self.now.data_end)
+            (if is_between address count (packet_start + self.now.data_start) (packet_start + self.now.data_end)
             then Some (address - packet_start) else None) }
     {
         let start = PACKET_START + self.start as u64;
         let end = PACKET_START + self.end as u64;
-        if start <= address && address <= end - bytes_of(size) {
+        if start <= address && address <= end - count {
             Some((address - PACKET_START) as usize)
         } else {
             None
         }
+    }
+}
+
+impl Frame {
+    ghost use Rattle.bpf_machine.specs.Machine.{with_start, with_end};
+
+    /// Moves the first byte, and says whether it stays in the buffer and leaves 14 bytes. Otherwise nothing changes.
+    #[tactic(auto, unfolding(crate::specs::Machine::with_start))]
+    pub(crate) fn move_head(&mut self, delta: i32) -> bool
+        ensures packet { IsPacket self.old }
+        ensures moved { with_start self.old delta ≡ (if result then Some self.new else None) }
+        ensures refused { result ≡ false → self.new ≡ self.old }
+    {
+        let start = self.start as i64 + i64::from(delta);
+        if start < 0 || start + LEAST > self.end as i64 {
+            return false;
+        }
+        self.start = start as usize;
+        true
+    }
+
+    /// Moves the end, and says whether it stays in the buffer and leaves 14 bytes. Bytes that come to the packet are 0.
+    /// Otherwise nothing changes.
+    #[tactic(auto, unfolding(crate::specs::Machine::with_end))]
+    pub(crate) fn move_tail(&mut self, delta: i32) -> bool
+        ensures packet { IsPacket self.old }
+        ensures moved { with_end self.old delta ≡ (if result then Some self.new else None) }
+        ensures refused { result ≡ false → self.new ≡ self.old }
+    {
+        let end = self.end as i64 + i64::from(delta);
+        if end < self.start as i64 + LEAST || end > self.buffer.len() as i64 {
+            return false;
+        }
+        let end = end as usize;
+        clear(&mut self.buffer, self.end, end);
+        self.end = end;
+        true
     }
 }
 
@@ -149,4 +202,15 @@ fn append(buffer: &mut Vec<u8>, bytes: &[u8])
     let Ok(()) = buffer.extend_from_slice(bytes) else {
         unreachable!()
     };
+}
+
+/// Sets the bytes from a place up to another one to 0, where that is behind it.
+fn clear(bytes: &mut [u8], start: usize, end: usize)
+    requires start { start ≤ length bytes.old }
+    requires end { end ≤ length bytes.old }
+    ensures { bytes.new ≡ with_bytes bytes.old start (replicate (end - start) 0) }
+{
+    if start < end {
+        bytes[start..end].fill(0);
+    }
 }

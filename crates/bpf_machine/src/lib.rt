@@ -7,13 +7,18 @@ mod calls;
 mod context;
 mod ending;
 mod environment;
+mod errors;
 mod flow;
 mod frame;
+mod helpers;
+mod maps;
 mod running;
 mod scratch;
 mod size;
 mod stack;
 mod step;
+#[cfg(test)]
+mod tests;
 mod transfers;
 
 pub use ending::{Cause, RunEnd};

@@ -1,4 +1,5 @@
-ghost use Rattle.std.specs.Prelude.{◌≡◌, vec_len};
+ghost use Rattle.std.specs.Prelude.{◌≡◌, ◌≤◌, vec_len};
+ghost use Rattle.std.specs.Vec.{vec_capacity};
 
 use arrayvec::ArrayVec;
 use lists::OutOfMemory;
@@ -17,13 +18,24 @@ pub(crate) struct Caller {
 /// How many bytes lie from the start of the first frame of the stack to the end of the last.
 pub(crate) const STACK_SIZE: usize = 0x7200;
 
-/// Room for runs, one after another.
+/// How many bytes the largest key and the largest value of a map have.
+const KEY_SIZE: usize = 512;
+
+const VALUE_SIZE: usize = 65_536;
+
+/// Room for runs, one after another. `target` is where a redirect goes; `key` and `value` are those of the last change to
+/// a map.
 #[derive(Debug, Drop)]
 pub struct Scratch {
     pub(crate) registers: Registers,
     pub(crate) callers: ArrayVec<Caller, 7>,
+    pub(crate) target: u32,
     pub(crate) stack: Vec<u8>,
+    pub(crate) key: Vec<u8>,
+    pub(crate) value: Vec<u8>,
     ghost room: { vec_len stack ≡ 0x7200 },
+    ghost key_room: { 512 ≤ vec_capacity key },
+    ghost value_room: { 65536 ≤ vec_capacity value },
 }
 
 impl Scratch {
@@ -32,7 +44,10 @@ impl Scratch {
         Ok(Scratch {
             registers: [0; 11],
             callers: ArrayVec::new(),
+            target: 0,
             stack: vec![in alloc; 0; STACK_SIZE]?,
+            key: Vec::with_capacity(alloc, KEY_SIZE)?,
+            value: Vec::with_capacity(alloc, VALUE_SIZE)?,
         })
     }
 }

@@ -3,9 +3,10 @@ ghost use Rattle.bpf_insn.specs.Form.{IsAtomic};
 ghost use Rattle.bpf_insn.specs.Insn.{HasRegisters};
 ghost use Rattle.bpf_machine.specs.Instruction.{load_act, load_signed_act, store_act, atomic_act, atomic_of, fetched, full_size};
 ghost use Rattle.flat_memory.specs.Numbers.{size_of};
+ghost use Rattle.map_store.specs.Slots.{shapes};
 ghost use Rattle.bpf_machine.specs.Machine.{state_of, next_of};
 
-use crate::access::{load, store};
+use crate::access::{load, store_number};
 use crate::arithmetic::{address, exchange, operand_value};
 use crate::environment::Env;
 use crate::flow::Flow;
@@ -14,12 +15,14 @@ use crate::scratch::{Registers, Scratch};
 use crate::size::{size_of_narrow, size_of_width};
 use bpf_alu::extend;
 use bpf_insn::{Atomic, Insn, Narrow, Operand, Size, Width};
+use map_store::Store;
 
 /// Loads a number into the target.
 #[inline]
 #[tactic(auto, unfolding(crate::specs::Instruction::after_load))]
 pub(crate) fn load_number(
     scratch: &mut Scratch,
+    store: &Store,
     frame: &Frame,
     env: &Env,
     at: u32,
@@ -27,11 +30,11 @@ pub(crate) fn load_number(
     size: Size,
 ) -> Flow
     requires { HasRegisters insn.now }
-    ensures { (target : ℕ) → load_act env.now (state_of (pos at) target scratch.old frame.now) insn.now size
-        ≡ next_of (pos at) result (λ next. state_of next target scratch.new frame.now) }
+    ensures { load_act env.now (state_of (pos at) scratch.old store.now frame.now) insn.now size
+        ≡ next_of (pos at) result (λ next. state_of next scratch.new store.now frame.now) }
 {
     let address = address(scratch.registers[insn.source as usize], insn.offset);
-    match load(scratch, frame, env, address, size) {
+    match load(scratch, store, frame, env, address, size) {
         Some(value) => {
             scratch.registers[insn.target as usize] = value;
             Flow::Next(i64::from(at) + 1)
@@ -45,6 +48,7 @@ pub(crate) fn load_number(
 #[tactic(auto, unfolding(crate::specs::Instruction::after_load))]
 pub(crate) fn load_signed(
     scratch: &mut Scratch,
+    store: &Store,
     frame: &Frame,
     env: &Env,
     at: u32,
@@ -52,12 +56,12 @@ pub(crate) fn load_signed(
     narrow: Narrow,
 ) -> Flow
     requires { HasRegisters insn.now }
-    ensures { (target : ℕ) → load_signed_act env.now (state_of (pos at) target scratch.old frame.now) insn.now narrow
-        ≡ next_of (pos at) result (λ next. state_of next target scratch.new frame.now) }
+    ensures { load_signed_act env.now (state_of (pos at) scratch.old store.now frame.now) insn.now narrow
+        ≡ next_of (pos at) result (λ next. state_of next scratch.new store.now frame.now) }
 {
     let address = address(scratch.registers[insn.source as usize], insn.offset);
     let size = size_of_narrow(narrow);
-    match load(scratch, frame, env, address, size) {
+    match load(scratch, store, frame, env, address, size) {
         Some(value) => {
             scratch.registers[insn.target as usize] = extend(value, bits_of(narrow));
             Flow::Next(i64::from(at) + 1)
@@ -71,6 +75,7 @@ pub(crate) fn load_signed(
 #[tactic(auto, unfolding(crate::specs::Instruction::after_store))]
 pub(crate) fn store_operand(
     scratch: &mut Scratch,
+    store: &mut Store,
     frame: &mut Frame,
     at: u32,
     insn: &Insn,
@@ -78,12 +83,13 @@ pub(crate) fn store_operand(
     operand: Operand,
 ) -> Flow
     requires { HasRegisters insn.now }
-    ensures { (target : ℕ) → store_act (state_of (pos at) target scratch.old frame.old) insn.now size operand
-        ≡ next_of (pos at) result (λ next. state_of next target scratch.new frame.new) }
+    ensures after { store_act (state_of (pos at) scratch.old store.old frame.old) insn.now size operand
+        ≡ next_of (pos at) result (λ next. state_of next scratch.new store.new frame.new) }
+    ensures shapes { shapes store.new ≡ shapes store.old }
 {
     let address = address(scratch.registers[insn.target as usize], insn.offset);
     let value = operand_value(&scratch.registers, insn, operand);
-    if store(scratch, frame, address, size, value) {
+    if store_number(scratch, store, frame, address, size, value) {
         Flow::Next(i64::from(at) + 1)
     } else {
         Flow::Fault
@@ -95,6 +101,7 @@ pub(crate) fn store_operand(
 #[tactic(auto, unfolding(crate::specs::Instruction::atomic_act, crate::specs::Instruction::exchange, crate::specs::Instruction::after_exchange))]
 pub(crate) fn change_number(
     scratch: &mut Scratch,
+    store: &mut Store,
     frame: &mut Frame,
     env: &Env,
     at: u32,
@@ -103,20 +110,21 @@ pub(crate) fn change_number(
 ) -> Flow
     requires registers { HasRegisters insn.now }
     requires atomic { IsAtomic insn.now }
-    ensures { (target : ℕ) → atomic_act width env.now (state_of (pos at) target scratch.old frame.old) insn.now (atomic_of insn.now.imm)
-        ≡ next_of (pos at) result (λ next. state_of next target scratch.new frame.new) }
+    ensures after { atomic_act width env.now (state_of (pos at) scratch.old store.old frame.old) insn.now (atomic_of insn.now.imm)
+        ≡ next_of (pos at) result (λ next. state_of next scratch.new store.new frame.new) }
+    ensures shapes { shapes store.new ≡ shapes store.old }
 {
     let Some(op) = Atomic::from_imm(insn.imm) else {
         unreachable!()
     };
     let address = address(scratch.registers[insn.target as usize], insn.offset);
     let size = size_of_width(width);
-    let Some(old) = load(scratch, frame, env, address, size) else {
+    let Some(old) = load(scratch, store, frame, env, address, size) else {
         return Flow::Fault;
     };
     let source = scratch.registers[insn.source as usize];
     let new = exchange(width, op, old, source, scratch.registers[0]);
-    if !store(scratch, frame, address, size, new) {
+    if !store_number(scratch, store, frame, address, size, new) {
         return Flow::Fault;
     }
     fetch(&mut scratch.registers, op, insn.source, old);

@@ -8,14 +8,14 @@ use Rattle.std.proofs.lemmas.List.{with_items_is}
 use Rattle.flat_memory.specs.Numbers.{with_bytes}
 use Rattle.flat_memory.proofs.Bytes.{length-with_bytes}
 use Rattle.bpf_machine.specs.declared.scratch.Caller.{Caller}
-use Rattle.bpf_machine.specs.Instruction.{Goes}
+use Rattle.bpf_machine.specs.Next.{Goes}
 use Rattle.bpf_machine.specs.State.{empty_frame, frame_start, frame_size}
 use Rattle.bpf_machine.proofs.Frames.{length-empty_frame}
 use Rattle.bpf_machine.proofs.States.{called, parts_same, kept_is}
 use Rattle.bpf_machine.proofs.calls.enter.Goals as goal
 
 pub returns : goal.returns
-returns c = λ target packet.
+returns c = λ maps packet.
     let registers : List ℕ = c.args.scratch.now.registers in
     let callers : List Caller = c.args.scratch.now.callers.items in
     let stack : List ℕ = c.args.scratch.now.stack.items in
@@ -32,5 +32,5 @@ returns c = λ target packet.
     let fits : 0x1000 * (length callers + 1) + length empty_frame ≤ length stack = omega arith in
     let kept_long : length c.clear_frame.new.stack ≡ c.args.scratch.now.stack.len = ap length cleared ∙ length-with_bytes stack (0x1000 * (length callers + 1)) empty_frame fits ∙ sym c.args.scratch.now.stack.ok.0 in
     let items : (with_items c.args.scratch.now.stack c.clear_frame.new.stack).items ≡ with_bytes stack (0x1000 * (length callers + 1)) empty_frame = with_items_is c.args.scratch.now.stack c.clear_frame.new.stack kept_long ∙ cleared in
-    called c.args.at target registers callers stack packet c.args.distance _ deep room (kept_is registers long)
-    ∙ ap Goes (parts_same _ _ target _ _ _ _ _ _ packet (sym next) (ap (λ (x : ℕ). slice_set registers 10 x) (sym top)) (sym c.push.ensures.items) (sym items))
+    called c.args.at c.args.scratch.now.target registers callers stack maps packet c.args.distance _ deep room (kept_is registers long)
+    ∙ ap Goes (parts_same _ _ c.args.scratch.now.target _ _ _ _ _ _ maps packet (sym next) (ap (λ (x : ℕ). slice_set registers 10 x) (sym top)) (sym c.push.ensures.items) (sym items))

@@ -10,7 +10,7 @@ use Rattle.bpf_machine.proofs.running.restart.Goals as goal
 
 pub returns : goal.returns
 unfolding start_registers
-returns c = λ packet.
+returns c = λ maps packet.
     let stack : List ℕ = c.args.scratch.now.stack.items in
     let room : length stack ≡ 0x7200 = sym c.args.scratch.now.stack.ok.0 ∙ c.args.scratch.now.room in
     let cleared : c.clear_frame.new.stack ≡ with_bytes stack 0 empty_frame = rw c.deref_mut.ensures.value at c.clear_frame.ensures in
@@ -18,4 +18,4 @@ returns c = λ packet.
     let fits : 0 + length empty_frame ≤ length stack = omega arith in
     let long : length c.clear_frame.new.stack ≡ c.args.scratch.now.stack.len = ap length cleared ∙ length-with_bytes stack 0 empty_frame fits ∙ sym c.args.scratch.now.stack.ok.0 in
     let items : (with_items c.args.scratch.now.stack c.clear_frame.new.stack).items ≡ with_bytes stack 0 empty_frame = with_items_is c.args.scratch.now.stack c.clear_frame.new.stack long ∙ cleared in
-    parts_same _ _ 0 start_registers start_registers _ _ _ _ packet refl refl c.clear.ensures items ∙ restarted stack packet room
+    parts_same _ _ 0 start_registers start_registers _ _ _ _ maps packet refl refl c.clear.ensures items ∙ restarted stack maps packet room
