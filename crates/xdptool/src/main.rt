@@ -5,7 +5,7 @@ use std::process::ExitCode;
 use std::rt::Env;
 use std::{env, io};
 use xdp_tool::run_tool;
-use xio::{RealFiles, RealOut};
+use xio::{RealFiles, RealOut, write_all};
 
 /// The words behind the program's name.
 fn words_of(rt: &(impl Env + AllocGlobal)) -> io::Result<Vec<String>> {
@@ -18,10 +18,17 @@ fn words_of(rt: &(impl Env + AllocGlobal)) -> io::Result<Vec<String>> {
 
 /// Words that can't be read, as where they aren't UTF-8, aren't taken: they count as none.
 fn main(rt: HostRuntime) -> ExitCode {
-    let words = words_of(&rt).unwrap_or(Vec::new(rt.alloc()));
+    let mut err = RealOut::new(rt.stderr());
+    let words = match words_of(&rt) {
+        Ok(words) => words,
+        Err(error) if error.kind() == io::ErrorKind::OutOfMemory => {
+            let _ = write_all(&mut err, b"xdptool: out of memory\n");
+            return ExitCode::from(4);
+        }
+        Err(_) => Vec::new(rt.alloc()),
+    };
     let mut files = RealFiles::new(rt.alloc(), rt);
     let mut out = RealOut::new(rt.stdout());
-    let mut err = RealOut::new(rt.stderr());
     let ended = run_tool(rt.alloc(), words.as_slice(), &mut files, &mut out, &mut err);
     ExitCode::from(ended.status)
 }
