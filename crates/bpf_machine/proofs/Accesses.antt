@@ -1,7 +1,8 @@
 -- What a read gives and a write makes, of a state by its parts.
-use Rattle.std.proofs.Common.{◌≡◌, ℕ, ◌+◌, ◌-◌, ◌<◌, ◌≤◌, List, length, take, drop, Bool, true, false, ◌⊎◌, inl, inr, Some, None, refl, sym, arith}
+use Rattle.std.proofs.Common.{◌≡◌, ℕ, ◌+◌, ◌-◌, ◌<◌, ◌≤◌, List, length, take, drop, Bool, true, false, inl, inr, Some, None, refl, sym, arith}
 use Rattle.std.specs.Prelude.{ℤ, if◌then◌else◌}
 use Rattle.std.specs.Option.{option_or}
+use Rattle.std.proofs.lemmas.Bool.{cases_Bool}
 use Rattle.std.proofs.lemmas.Bool.Decides.{nat_tests}
 use Rattle.flat_memory.specs.Memory.{written, number_at, bytes_at}
 use Rattle.flat_memory.specs.Numbers.{number_in, with_bytes, stored, size_of}
@@ -18,10 +19,6 @@ use Rattle.bpf_machine.specs.Stack.{in_frames, stack_load, stack_bytes}
 use Rattle.bpf_machine.specs.State.{Packet, IsPacket, packet_start, stack_start, context_start}
 use Rattle.bpf_machine.proofs.Regions.{seen_in, packet_number, packet_part, stack_number, stack_part, values_number, values_part, context_number, context_slice, packet_write, stack_write}
 use Rattle.bpf_machine.proofs.States.{parts}
-
-cases_bool : (b : Bool) → (b ≡ true) ⊎ (b ≡ false)
-cases_bool true = inl refl
-cases_bool false = inr refl
 
 record Between (a w from to : ℕ) : Type 0 where
   low : from ≤ a
@@ -56,13 +53,13 @@ data Region (depth : ℕ) (maps : List Map) (packet : Packet) (a n : ℕ) : Type
   Nowhere : is_between a n (packet_start + packet.data_start) (packet_start + packet.data_end) ≡ false → in_frames depth a n ≡ false → values.can_read maps a n ≡ false → in_context a n ≡ false → Region depth maps packet a n
 
 region : (depth : ℕ) (maps : List Map) (packet : Packet) (a n : ℕ) → Region depth maps packet a n
-region depth maps packet a n = elim (cases_bool (is_between a n (packet_start + packet.data_start) (packet_start + packet.data_end))) [
+region depth maps packet a n = elim (cases_Bool (is_between a n (packet_start + packet.data_start) (packet_start + packet.data_end))) [
   | inl inside ↦ InPacket inside
-  | inr p ↦ elim (cases_bool (in_frames depth a n)) [
+  | inr p ↦ elim (cases_Bool (in_frames depth a n)) [
     | inl inside ↦ InStack p inside
-    | inr f ↦ elim (cases_bool (values.can_read maps a n)) [
+    | inr f ↦ elim (cases_Bool (values.can_read maps a n)) [
       | inl inside ↦ InValues p f inside
-      | inr v ↦ elim (cases_bool (in_context a n)) [ inl inside ↦ InContext p f v inside | inr c ↦ Nowhere p f v c ]
+      | inr v ↦ elim (cases_Bool (in_context a n)) [ inl inside ↦ InContext p f v inside | inr c ↦ Nowhere p f v c ]
     ]
   ]
 ]

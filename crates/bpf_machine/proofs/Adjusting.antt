@@ -1,6 +1,7 @@
 -- Packets whose first byte or end is moved.
-use Rattle.std.proofs.Common.{◌≡◌, ℕ, ◌+◌, ◌-◌, ◌≤◌, List, length, replicate, Bool, true, false, ◌&&◌, ◌⊎◌, inl, inr, Some, None, refl, sym, arith}
+use Rattle.std.proofs.Common.{◌≡◌, ℕ, ◌+◌, ◌-◌, ◌≤◌, List, length, replicate, Bool, true, ◌&&◌, inl, inr, Some, None, refl, sym, arith}
 use Rattle.std.specs.Prelude.{ℤ, pos, negsuc, ◌+ℤ◌, ◌≤ℤ◌, int_le, unsigned_abs}
+use Rattle.std.proofs.lemmas.Bool.{cases_Bool}
 use Rattle.std.proofs.lemmas.Int.{ints}
 use Rattle.std.proofs.lemmas.List.{length-replicate}
 use Rattle.flat_memory.specs.Memory.{written}
@@ -45,10 +46,6 @@ pub end_within : (x : ℤ) (size : ℕ) → pos 0 ≤ℤ x → x ≤ℤ pos size
 end_within (pos n) size above below = omega (arith, ints)
 end_within (negsuc n) size above below = absurd (omega (arith, ints))
 
-cases_bool : (b : Bool) → (b ≡ true) ⊎ (b ≡ false)
-cases_bool true = inl refl
-cases_bool false = inr refl
-
 some_packet : (a b : Packet) → Some a ≡ Some b → b ≡ a
 some_packet a b same = cc
 
@@ -61,7 +58,7 @@ pub head_moved : (next : ℤ) (target : ℕ) (registers : List ℕ) (callers : L
 unfolding with_start move_head memory_of
 head_moved next target registers callers stack maps packet new delta is =
     let x : ℤ = pos packet.data_start +ℤ delta in
-    elim (cases_bool (int_le (pos 0) x && int_le (x +ℤ pos 14) (pos packet.data_end))) [
+    elim (cases_Bool (int_le (pos 0) x && int_le (x +ℤ pos 14) (pos packet.data_end))) [
       | inl test ↦
           let same : new ≡ record packet { data_start = unsigned_abs x } = some_packet (record packet { data_start = unsigned_abs x }) new (rw test at is) in
           rw (same, head_test packet.data_start packet.data_end delta, test, address_moved packet.data_start delta (above_test x _ test)) refl
@@ -73,7 +70,7 @@ pub head_stays : (next : ℤ) (target : ℕ) (registers : List ℕ) (callers : L
 unfolding with_start move_head
 head_stays next target registers callers stack maps packet delta is =
     let x : ℤ = pos packet.data_start +ℤ delta in
-    elim (cases_bool (int_le (pos 0) x && int_le (x +ℤ pos 14) (pos packet.data_end))) [
+    elim (cases_Bool (int_le (pos 0) x && int_le (x +ℤ pos 14) (pos packet.data_end))) [
       | inl test ↦ absurd (none_packet (record packet { data_start = unsigned_abs x }) (sym (rw test at is)))
       | inr test ↦ rw (head_test packet.data_start packet.data_end delta, test) refl
     ]
@@ -85,7 +82,7 @@ unfolding with_end move_tail memory_of
 tail_moved next target registers callers stack maps packet new delta is ends =
     let x : ℤ = pos packet.data_end +ℤ delta in
     let zeros : List ℕ = replicate (unsigned_abs x - packet.data_end) 0 in
-    elim (cases_bool (int_le (pos (packet.data_start + 14)) x && int_le x (pos (length packet.buffer)))) [
+    elim (cases_Bool (int_le (pos (packet.data_start + 14)) x && int_le x (pos (length packet.buffer)))) [
       | inl test ↦
           let same : new ≡ record packet { data_end = unsigned_abs x; buffer = with_bytes packet.buffer packet.data_end zeros } = some_packet _ new (rw test at ends) in
           let above : pos 0 ≤ℤ x = grind (arith, ints) in
@@ -105,7 +102,7 @@ pub tail_stays : (next : ℤ) (target : ℕ) (registers : List ℕ) (callers : L
 unfolding with_end move_tail
 tail_stays next target registers callers stack maps packet delta ends =
     let x : ℤ = pos packet.data_end +ℤ delta in
-    elim (cases_bool (int_le (pos (packet.data_start + 14)) x && int_le x (pos (length packet.buffer)))) [
+    elim (cases_Bool (int_le (pos (packet.data_start + 14)) x && int_le x (pos (length packet.buffer)))) [
       | inl test ↦ absurd (none_packet _ (sym (rw test at ends)))
       | inr test ↦ rw (tail_test packet.data_start packet.data_end (length packet.buffer) delta, test) refl
     ]

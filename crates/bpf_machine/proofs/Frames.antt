@@ -1,7 +1,7 @@
 -- Frames of the stack that are entered and left.
 use mathlib.Core.Path.{fun_ext}
 use Rattle.std.proofs.Common.{◌≡◌, ℕ, ◌+◌, ◌-◌, ◌*◌, ◌/◌, ◌%◌, ◌<◌, ◌≤◌, List, length, Bool, true, false, nat_le, nat_lt, ◌&&◌, ◌⊎◌, inl, inr, None, refl, sym, ◌∙◌, arith}
-use Rattle.std.proofs.lemmas.Bool.{cases_lt}
+use Rattle.std.proofs.lemmas.Bool.{cases_lt, cases_Bool}
 use Rattle.std.proofs.lemmas.Bool.Decides.{nat_tests}
 use Rattle.flat_memory.specs.Memory.{masked, block, overlaid, written, without}
 use Rattle.flat_memory.specs.Numbers.{with_bytes}
@@ -12,10 +12,6 @@ use Rattle.bpf_machine.specs.State.{Packet, IsPacket, packet_start, stack_start,
 pub length-empty_frame : length empty_frame ≡ 512
 unfolding empty_frame
 length-empty_frame = refl
-
-cases_bool : (b : Bool) → (b ≡ true) ⊎ (b ≡ false)
-cases_bool true = inl refl
-cases_bool false = inr refl
 
 -- a place outside the next frame is shown where it was
 mask_apart : (depth k : ℕ) → (k < 0x1000 * (depth + 1)) ⊎ (0x1000 * (depth + 1) + 512 ≤ k) → stack_mask (depth + 1) k ≡ stack_mask depth k
@@ -58,7 +54,7 @@ cases_range k place n = elim (cases_lt k place) [
 
 -- bytes that two masks show alike
 masked-same : (start : ℕ) (a b : ℕ → Bool) (bytes : List ℕ) (k : ℕ) → a k ≡ b k → masked start a bytes (start + k) ≡ masked start b bytes (start + k)
-masked-same start a b bytes k same = elim (cases_bool (b k)) [
+masked-same start a b bytes k same = elim (cases_Bool (b k)) [
   | inl seen ↦ rw (masked-shown start a bytes k (same ∙ seen), masked-shown start b bytes k seen) refl
   | inr hidden ↦ rw (masked-hidden start a bytes k (same ∙ hidden), masked-hidden start b bytes k hidden) refl
 ]

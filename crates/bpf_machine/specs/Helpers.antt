@@ -42,7 +42,7 @@ pub record Answer : Type 0 where
 abbrev pub answered : State → ℕ → Option Answer
 answered s value = Some (record { state = s; value = value })
 
--- the negative of an error number of the kernel, in 64 bits
+-- the negative of an error number of the kernel, in 64 bits: EPERM is 1, ENOENT 2, E2BIG 7, EEXIST 17 and EINVAL 22
 abbrev pub refusal : ℕ → ℕ
 refusal error = 2 ^ 64 - error
 
