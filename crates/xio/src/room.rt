@@ -1,6 +1,6 @@
-ghost use Rattle.std.specs.Prelude.{◌≡◌, ◌+◌, ◌≤◌, ◌↔◌, [], ◌++◌, length, vec_len, vec_capacity, IsTrue, IfOk};
+ghost use Rattle.std.specs.Prelude.{◌≡◌, ◌≤◌, [], ◌++◌, vec_len, vec_capacity, IfOk};
 ghost use Rattle.std.specs.Bool.{OnTrue, OnFalse};
-ghost use Rattle.xio.specs.Room.{RoomState};
+ghost use Rattle.xio.specs.Room.{RoomState, fits};
 
 use lists::OutOfMemory;
 use std::alloc::Global;
@@ -39,13 +39,20 @@ impl Room {
 
     /// Puts a piece behind the bytes and says that it fitted.
     pub fn put(&mut self, piece: &[u8]) -> bool
-        ensures fits { IsTrue result ↔ (length self.old.bytes + length piece.now ≤ self.old.size) }
+        ensures fits { result ≡ fits self.old.size self.old.bytes piece.now }
         ensures put { OnTrue result (self.new ≡ record self.old { bytes = self.old.bytes ++ piece.now }) }
         ensures unchanged { OnFalse result (self.new ≡ self.old) }
+        ensures same_size { self.new.size ≡ self.old.size }
     {
         if piece.len() > self.size - self.bytes.len() {
             return false;
         }
         self.bytes.extend_from_slice(piece).is_ok()
+    }
+
+    pub fn clear(&mut self)
+        ensures { self.new ≡ record self.old { bytes = [] } }
+    {
+        self.bytes.clear();
     }
 }
