@@ -123,3 +123,39 @@ lent {S = S} told sink buffer held waiting held' waiting' text before now flushe
         ≡ record { sink = sink; buffer = buffer; flushed = if_told told flushed; setting = setting }
     same_setting true f f' e s = rw (e refl, s) refl
     same_setting false f f' e s = rw s refl
+
+-- a front of a whole text was printed, and what is left of it is known
+pub record HasPrinted {S : Type 0} (E : Type 0) (told counted : Bool) (old new : PrinterState S) (whole left : List ℕ) : Type 0 where
+  pub front : List ℕ
+  pub prints : Prints {E = E} told counted old new front (Ok tt)
+  pub joins : front ++ left ≡ whole
+
+pub printed_none : {S : Type 0} {E : Type 0} (told counted : Bool) (state : PrinterState S) (whole : List ℕ) → HasPrinted E told counted state state whole whole
+printed_none told counted state whole = record { front = []; prints = prints_none told counted state; joins = refl }
+
+-- one text more
+pub printed_more : {S E : Type 0} {told counted : Bool} {a b c : PrinterState S} {whole left : List ℕ} (text left' : List ℕ) → HasPrinted E told counted a b whole left
+    → left ≡ text ++ left' → Prints {E = E} told counted b c text (Ok tt) → HasPrinted E told counted a c whole left'
+printed_more text left' p is more = record {
+  front = p.front ++ text;
+  prints = prints_then (Ok tt) p.prints more;
+  joins = append_assoc p.front text left' ∙ (ap (λ xs. p.front ++ xs) (sym is) ∙ p.joins);
+}
+
+-- one that ended
+pub printed_stop : {S E F : Type 0} {told counted : Bool} {a b c : PrinterState S} {whole left : List ℕ} {e : E} (text left' : List ℕ) (result : Result Unit F) → IsErr result
+    → HasPrinted E told counted a b whole left → left ≡ text ++ left' → Prints told counted b c text (let r : Result Unit E = Err e in r) → Prints told counted a c whole result
+printed_stop {told = told} {counted = counted} {a = a} {c = c} {e = e} text left' result is_err p is stop =
+    subst (λ xs. Prints told counted a c xs result) (append_assoc p.front text left' ∙ (ap (λ xs. p.front ++ xs) (sym is) ∙ p.joins))
+    (prints_stop left' result is_err (prints_then (Err e) p.prints stop))
+
+-- the whole text
+pub printed_all : {S E : Type 0} {told counted : Bool} {a b : PrinterState S} {whole left : List ℕ} → HasPrinted E told counted a b whole left → left ≡ [] → Prints {E = E} told counted a b whole (Ok tt)
+printed_all {E = E} {told = told} {counted = counted} {a = a} {b = b} p none =
+    subst (λ xs. Prints {E = E} told counted a b xs (Ok tt)) (sym (append-nil p.front) ∙ (ap (λ xs. p.front ++ xs) (sym none) ∙ p.joins)) p.prints
+
+-- what a list of bytes holds
+pub printed_text : {S E : Type 0} {counted : Bool} {a b : PrinterState S} {t : List ℕ} → Prints {E = E} true counted a b t (Ok tt) → b.text ≡ a.text ++ t
+printed_text p = p.printed refl
+
+pub ruleset printing = (prints_none, prints_then, prints_stop)

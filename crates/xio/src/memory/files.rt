@@ -38,6 +38,7 @@ impl MemoryFiles {
     /// No files. Each made file takes room for `capacity` bytes. `failing` are the calls that are to fail, numbered from 1.
     pub fn new(alloc: Global, capacity: u32, failing: &[u32]) -> Result<Self, OutOfMemory>
         ensures told { IfOk result (λ files. told_by files ≡ told_none) }
+        ensures no_files { IfOk result (λ files. (name : _) → has_file files name ≡ false) }
         ensures plan { IfOk result (λ files. plan_of files ≡ record {
           calls = record { failing = failing.now; made = 0 };
           capacity = capacity;
@@ -70,6 +71,7 @@ impl MemoryFiles {
           content = set_named (told_by self.old).content name.now bytes.now;
           flushed = set_named (told_by self.old).flushed name.now 0;
         }) }
+        ensures there { OnOk result (has_file self.new ≡ set_named (has_file self.old) name.now true) }
         ensures plan { OnOk result (plan_of self.new ≡ record (plan_of self.old) {
           setups = set_named (plan_of self.old).setups name.now (record { there = true; room = length bytes.now; bad_place = bad_place });
         }) }
