@@ -2,12 +2,14 @@ pub mod Answer
 pub mod Book
 pub mod Capped
 pub mod Carrier
+pub mod Handed
 pub mod Hits
 pub mod Interfaces
 pub mod Legal
 pub mod Members
 pub mod Own
 pub mod OwnView
+pub mod PacketView
 pub mod RunSums
 pub mod State
 pub mod Sums

@@ -3,19 +3,19 @@
 -- phase.
 use Rattle.std.specs.Prelude.{ℕ, List, [], ◌∷◌, length, take}
 use Rattle.xdp_state.specs.Book.{after}
+use Rattle.xdp_state.specs.Handed.{Handed}
 use Rattle.xdp_state.specs.Traversal.{traversal}
 use Rattle.xdp_state.specs.Work.{Work}
 use Rattle.xdp_state.specs.declared.carried.Carried.{Carried}
 use Rattle.xdp_state.specs.declared.change.Change.{Change}
 use Rattle.xdp_state.specs.declared.packet.HandIn.{HandIn}
-use Rattle.xdp_state.specs.declared.packet.Packet.{Packet}
 
 -- where a processor stands between two packets
 pub record Standing : Type 0 where
   -- the interface whose queue it serves
   pub interface : ℕ
 
-abbrev pub carried_with : List Change → Standing → ℕ → Packet → Carried
+abbrev pub carried_with : List Change → Standing → ℕ → Handed → Carried
 carried_with published standing count packet = record {
   count = count;
   handed = length packet.frame;
@@ -23,7 +23,7 @@ carried_with published standing count packet = record {
 }
 
 -- a filter keeps nothing of a packet
-abbrev pub standing_with : List Change → Standing → ℕ → Packet → Standing
+abbrev pub standing_with : List Change → Standing → ℕ → Handed → Standing
 standing_with published standing count packet = standing
 
 -- the packets of a processor, one after another

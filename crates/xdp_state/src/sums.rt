@@ -56,10 +56,9 @@ impl Sums {
         &self.all
     }
 
-    /// Adds what the processors carried in a phase, in the time of its packets. Where memory is wanting a part may have been
-    /// added.
+    /// Adds what the processors carried in a phase, in the time of its packets; there is a list for each processor. Where
+    /// memory is wanting a part may have been added.
     pub fn add(&mut self, carried: &[CarriedList]) -> Result<(), OutOfMemory>
-        requires { length carried.now ≡ length self.old.by_processor }
         ensures sums { (past : Past) → self.old ≡ sums_of past
             → OnOk result (self.new ≡ sums_of (past_with past carried.now)) }
         ensures processors { length self.new.by_processor ≡ length self.old.by_processor }
@@ -81,13 +80,14 @@ fn no_tallies(alloc: Global, processors: u32) -> Result<Vec<Tally>, OutOfMemory>
 
 /// Adds each processor's packets to its own sums.
 fn add_by_processor(tallies: &mut Vec<Tally>, carried: &[CarriedList]) -> Result<(), OutOfMemory>
-    requires { length carried.now ≡ vec_len tallies.old }
     ensures sums { (before : List (List Counted)) → tallies.old.items ≡ map tally_of before
         → OnOk result (tallies.new.items ≡ map tally_of (joined before carried.now)) }
     ensures processors { vec_len tallies.new ≡ vec_len tallies.old }
 {
     for (processor, packets) in carried.iter().enumerate() {
-        add_packets(&mut tallies[processor], packets.as_slice())?;
+        if processor < tallies.len() {
+            add_packets(&mut tallies[processor], packets.as_slice())?;
+        }
     }
     Ok(())
 }
@@ -130,9 +130,7 @@ mod tests {
                 one(alloc, handed, Action::Pass)?,
                 one(alloc, 100, Action::Drop)?,
             ];
-            if sums.processors() == 2 {
-                sums.add(&carried)?;
-            }
+            sums.add(&carried)?;
         }
         Ok(sums)
     }
