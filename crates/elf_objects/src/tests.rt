@@ -190,6 +190,7 @@ fn shows_names_and_contents(rt: HostRuntime) -> Result<(), Fail> {
 fn shows_a_relocation(rt: HostRuntime) -> Result<(), Fail> {
     let bytes = damaged(rt.alloc(), 408, &[(220, 9), (256, 2), (272, 16), (76, 1)])?;
     let object = read_object(rt.alloc(), bytes.as_slice()).map_err(|_| "refused")?;
+    assert_eq!(rt; object.sections().len(), 4);
     let reloc = Reloc {
         offset: 0x2_0000_00b7,
         symbol: 1,
