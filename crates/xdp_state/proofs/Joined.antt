@@ -1,0 +1,30 @@
+-- Each processor's sums, as one after another gets its packets of a phase.
+use Rattle.std.proofs.Common.{◌≡◌, ℕ, ◌<◌, ◌≤◌, zero, suc, List, [], ◌∷◌, ◌++◌, length, map, take, slice_index_or, slice_set, refl, ap, ◌∙◌, arith}
+use Rattle.xdp_state.specs.Sums.{Counted, counted, joined, tally_of}
+use Rattle.xdp_state.specs.declared.carried.Carried.{Carried}
+use Rattle.xdp_state.specs.declared.tally.Tally.{Tally}
+
+pub joined-set : (before : List (List Counted)) (carried : List (List Carried)) (k : ℕ) (packets : List Carried) (old new : Tally) → k < length carried → k < length before → packets ≡ slice_index_or carried k packets → old ≡ slice_index_or (map tally_of (joined before (take k carried))) k old → ((b : List Counted) → old ≡ tally_of b → new ≡ tally_of (b ++ map counted packets)) → slice_set (map tally_of (joined before (take k carried))) k new ≡ map tally_of (joined before (take (suc k) carried))
+joined-set [] carried k packets old new below under is there goes = absurd (omega arith)
+joined-set (b ∷ before) [] k packets old new below under is there goes = absurd (omega arith)
+joined-set (b ∷ before) (c ∷ carried) zero packets old new below under is there goes =
+    ap (λ t. t ∷ map tally_of before) (goes b there ∙ ap (λ ps. tally_of (b ++ map counted ps)) is)
+joined-set (b ∷ before) (c ∷ carried) (suc k) packets old new below under is there goes =
+    ap (λ more. tally_of (b ++ map counted c) ∷ more) (joined-set before carried k packets old new (omega arith) (omega arith) is there goes)
+
+-- there is no such processor
+pub joined-past : (before : List (List Counted)) (carried : List (List Carried)) (k : ℕ) → length before ≤ k → joined before (take (suc k) carried) ≡ joined before (take k carried)
+joined-past [] [] zero past = refl
+joined-past [] [] (suc k) past = refl
+joined-past [] (c ∷ carried) zero past = refl
+joined-past [] (c ∷ carried) (suc k) past = refl
+joined-past (b ∷ before) [] zero past = refl
+joined-past (b ∷ before) [] (suc k) past = refl
+joined-past (b ∷ before) (c ∷ carried) zero past = absurd (omega arith)
+joined-past (b ∷ before) (c ∷ carried) (suc k) past =
+    ap (λ more. (b ++ map counted c) ∷ more) (joined-past before carried k (omega arith))
+
+pub length-joined : (before : List (List Counted)) (carried : List (List Carried)) → length (joined before carried) ≡ length before
+length-joined before [] = refl
+length-joined [] (c ∷ carried) = refl
+length-joined (b ∷ before) (c ∷ carried) = omega (arith, length-joined before carried)
