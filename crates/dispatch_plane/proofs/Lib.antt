@@ -1,0 +1,9 @@
+pub mod Adding
+pub mod Fronts
+pub mod Histories
+pub mod Looks
+pub mod PortLists
+pub mod Prefixes
+pub mod Publications
+pub mod Standing
+pub mod Views

@@ -1,0 +1,11 @@
+pub mod Glance
+pub mod History
+pub mod Known
+pub mod Lens
+pub mod Log
+pub mod Ports
+pub mod Published
+pub mod Publisher
+pub mod Sight
+pub mod Trace
+pub mod View
