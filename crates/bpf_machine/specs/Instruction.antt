@@ -174,7 +174,7 @@ abbrev pub call_act : Env → State → Insn → Next
 call_act env s insn = if insn.source == 1 then call_local s insn.imm else helper_act env s (helper_of insn.imm)
 
 -- What an instruction does in a state whose next slot it stands in.
-abbrev pub act : List Insn → Env → State → Insn → Operation → Next
+unfoldable pub act : List Insn → Env → State → Insn → Operation → Next
 act code env s insn (Alu width op operand) = alu_act s insn width op operand
 act code env s insn (Neg width) = Goes (advanced (put s insn.target (operated width op.Neg (register s insn.target) 0)))
 act code env s insn (End order) = Goes (advanced (put s insn.target (swap order (register s insn.target) (cast_unsigned w32 insn.imm))))

@@ -1,14 +1,19 @@
 -- What the machine's parts stand for.
-use Rattle.std.specs.Prelude.{ℕ, ℤ, pos, ◌+◌, ◌-◌, ◌/◌, ◌%◌, ◌+ℤ◌, nat_le, nat_lt, int_le, ◌&&◌, if◌then◌else◌, Bool, List, length, replicate, Option, Some, None, unsigned_abs}
+use Rattle.std.specs.Prelude.{◌≡◌, ℕ, ℤ, pos, ◌+◌, ◌-◌, ◌/◌, ◌%◌, ◌+ℤ◌, nat_le, nat_lt, int_le, ◌&&◌, if◌then◌else◌, Bool, List, length, replicate, Option, Some, None, unsigned_abs}
+use Rattle.bpf_insn.specs.declared.insn.Insn.{Insn}
+use Rattle.bpf_insn.specs.declared.operation.Operation.{Operation}
+use Rattle.bpf_insn.specs.Operation.{opcode_of}
 use Rattle.flat_memory.specs.Numbers.{with_bytes}
 use Rattle.flat_memory.specs.Memory.{Memory, masked, block, overlaid}
 use Rattle.map_store.specs.Slots.{Map}
+use Rattle.bpf_machine.specs.declared.environment.Env.{Env}
 use Rattle.bpf_machine.specs.declared.flow.Flow.{Flow}
 use Rattle.bpf_machine.specs.declared.flow.Flow.TheVariants as flow
 use Rattle.bpf_machine.specs.declared.flow.Halt.{Halt}
 use Rattle.bpf_machine.specs.declared.flow.Halt.TheVariants as halt
 use Rattle.bpf_machine.specs.declared.scratch.Scratch.{Scratch}
 use Rattle.bpf_machine.specs.Helpers.{Answer, answered}
+use Rattle.bpf_machine.specs.Instruction.{act}
 use Rattle.bpf_machine.specs.Next.{Next, Goes, Ends, Faults}
 use Rattle.bpf_machine.specs.Run.{Ending, Ended, Faulted, Spent}
 use Rattle.bpf_machine.specs.State.{State, Packet, packet_start, stack_start, frame_size}
@@ -60,6 +65,11 @@ abbrev pub next_of : ℤ → Flow → (ℤ → State) → Next
 next_of at (flow.Next next) state = Goes (state next)
 next_of at flow.End state = Ends (state at)
 next_of at flow.Fault state = Faults (state at)
+
+-- The instruction of a slot leads from a state to this outcome, whatever operation has its opcode.
+unfoldable pub IsCarriedOut : List Insn → Env → ℤ → Insn → State → Flow → (ℤ → State) → Type 0
+IsCarriedOut code env at insn before flow after =
+    (operation : Operation) → opcode_of operation ≡ insn.opcode → act code env before insn operation ≡ next_of at flow after
 
 -- what a run's end stands for
 abbrev pub ending_of : ℕ → Halt → State → Ending

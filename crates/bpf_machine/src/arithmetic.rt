@@ -54,6 +54,34 @@ pub(crate) fn address(base: u64, offset: i16) -> u64
     base.wrapping_add(i64::from(offset).cast_unsigned())
 }
 
+/// The operation and its second operand: an offset makes a division signed, and says of how many bits a move extends the
+/// sign (RFC 9669 §4.1).
+#[inline]
+fn operation_of(op: Arithmetic, offset: i16, second: u64) -> (Op, u64)
+    requires { (op ≡ Arithmetic.Mov) → (offset ≡ pos 0) ⊎ ((offset ≡ pos 8) ⊎ ((offset ≡ pos 16) ⊎ (offset ≡ pos 32))) }
+    ensures op { result.0 ≡ op_of op offset }
+    ensures second { result.1 ≡ second_of op offset second }
+{
+    let signed = offset != 0;
+    match op {
+        Arithmetic::Add => (Op::Add, second),
+        Arithmetic::Sub => (Op::Sub, second),
+        Arithmetic::Mul => (Op::Mul, second),
+        Arithmetic::Div if signed => (Op::Sdiv, second),
+        Arithmetic::Div => (Op::Div, second),
+        Arithmetic::Or => (Op::Or, second),
+        Arithmetic::And => (Op::And, second),
+        Arithmetic::Lsh => (Op::Lsh, second),
+        Arithmetic::Rsh => (Op::Rsh, second),
+        Arithmetic::Mod if signed => (Op::Smod, second),
+        Arithmetic::Mod => (Op::Mod, second),
+        Arithmetic::Xor => (Op::Xor, second),
+        Arithmetic::Mov if signed => (Op::Mov, extend(second, u32::from(offset.cast_unsigned()))),
+        Arithmetic::Mov => (Op::Mov, second),
+        Arithmetic::Arsh => (Op::Arsh, second),
+    }
+}
+
 /// Puts the result of an operation of two operands into the target.
 #[inline]
 pub(crate) fn operate_alu(
@@ -70,27 +98,7 @@ pub(crate) fn operate_alu(
         (second_of op insn.now.offset (operand_of operand insn.now registers.old))) }
 {
     let second = operand_value(registers, insn, operand);
-    let signed = insn.offset != 0;
-    let (op, second) = match op {
-        Arithmetic::Add => (Op::Add, second),
-        Arithmetic::Sub => (Op::Sub, second),
-        Arithmetic::Mul => (Op::Mul, second),
-        Arithmetic::Div if signed => (Op::Sdiv, second),
-        Arithmetic::Div => (Op::Div, second),
-        Arithmetic::Or => (Op::Or, second),
-        Arithmetic::And => (Op::And, second),
-        Arithmetic::Lsh => (Op::Lsh, second),
-        Arithmetic::Rsh => (Op::Rsh, second),
-        Arithmetic::Mod if signed => (Op::Smod, second),
-        Arithmetic::Mod => (Op::Mod, second),
-        Arithmetic::Xor => (Op::Xor, second),
-        Arithmetic::Mov if signed => (
-            Op::Mov,
-            extend(second, u32::from(insn.offset.cast_unsigned())),
-        ),
-        Arithmetic::Mov => (Op::Mov, second),
-        Arithmetic::Arsh => (Op::Arsh, second),
-    };
+    let (op, second) = operation_of(op, insn.offset, second);
     let target = insn.target as usize;
     registers[target] = operate(width, op, registers[target], second);
 }

@@ -2,11 +2,10 @@ ghost use Rattle.std.specs.Prelude.{List, ◌≡◌, ◌<◌, ◌^◌, ℕ, pos,
 ghost use Rattle.bpf_insn.specs.Insn.{HasRegisters};
 ghost use Rattle.bpf_insn.specs.Code.{IsCode};
 ghost use Rattle.bpf_insn.specs.Form.{Fits, form_of, IsListed};
-ghost use Rattle.bpf_insn.specs.Operation.{opcode_of};
 ghost use Rattle.map_store.specs.Slots.{Map, shapes};
 ghost use Rattle.bpf_machine.specs.Instruction.{act, wide_act, slot_at, branch_act};
 ghost use Rattle.bpf_machine.specs.Next.{Next};
-ghost use Rattle.bpf_machine.specs.Machine.{state_of, next_of};
+ghost use Rattle.bpf_machine.specs.Machine.{state_of, next_of, IsCarriedOut};
 ghost use Rattle.bpf_machine.specs.Run.{Steps, instruction_at};
 ghost use Rattle.bpf_machine.specs.State.{Packet};
 
@@ -83,9 +82,8 @@ fn dispatch(
     insn: &Insn,
 ) -> Flow
     requires { IsListed insn.now }
-    ensures after { (operation : Operation) → opcode_of operation ≡ insn.now.opcode →
-        act code.now env.now (state_of (pos at) scratch.old store.old frame.old) insn.now operation
-        ≡ next_of (pos at) result (λ next. state_of next scratch.new store.new frame.new) }
+    ensures after { IsCarriedOut code.now env.now (pos at) insn.now (state_of (pos at) scratch.old store.old frame.old)
+        result (λ next. state_of next scratch.new store.new frame.new) }
     ensures shapes { shapes store.new ≡ shapes store.old }
 {
     by_literal!(insn.opcode, opcode => carry_out(scratch, store, frame, env, code, at, insn, opcode), [
@@ -101,6 +99,7 @@ fn dispatch(
 
 /// Carries out an instruction of this opcode.
 #[inline]
+#[tactic(auto, unfolding(crate::specs::Machine::IsCarriedOut))]
 fn carry_out(
     scratch: &mut Scratch,
     store: &mut Store,
@@ -113,9 +112,8 @@ fn carry_out(
 ) -> Flow
     requires listed { IsListed insn.now }
     requires opcode { insn.now.opcode ≡ opcode }
-    ensures after { (operation : Operation) → opcode_of operation ≡ insn.now.opcode →
-        act code.now env.now (state_of (pos at) scratch.old store.old frame.old) insn.now operation
-        ≡ next_of (pos at) result (λ next. state_of next scratch.new store.new frame.new) }
+    ensures after { IsCarriedOut code.now env.now (pos at) insn.now (state_of (pos at) scratch.old store.old frame.old)
+        result (λ next. state_of next scratch.new store.new frame.new) }
     ensures shapes { shapes store.new ≡ shapes store.old }
 {
     let Some(operation) = Operation::from_opcode(opcode) else {
@@ -126,6 +124,7 @@ fn carry_out(
 
 /// Carries out the instruction in slot `at`, which is of this operation.
 #[inline]
+#[tactic(auto, unfolding(crate::specs::Instruction::act))]
 fn execute(
     scratch: &mut Scratch,
     store: &mut Store,

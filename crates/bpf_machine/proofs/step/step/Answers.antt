@@ -9,7 +9,7 @@ use Rattle.bpf_insn.specs.Form.{IsListed}
 use Rattle.bpf_insn.specs.Operation.{opcode_of}
 use Rattle.bpf_insn.specs.declared.operation.Operation.{Operation}
 use Rattle.bpf_machine.specs.Instruction.{act}
-use Rattle.bpf_machine.specs.Machine.{state_of, next_of}
+use Rattle.bpf_machine.specs.Machine.{state_of, next_of, IsCarriedOut}
 use Rattle.bpf_machine.specs.Run.{instruction_at}
 use Rattle.bpf_machine.proofs.Listed.{code_listed}
 use Rattle.bpf_machine.proofs.Steps.{pos_abs, at_slot, steps_to, steps_only}
@@ -23,6 +23,7 @@ dispatch-flow-requires c =
     code_listed c.args.code.now k c.in-Some.insn.now c.requires.code found c.if-insn.false
 
 pub returns-clause-some : goal.returns-clause-some
+unfolding IsCarriedOut
 returns-clause-some c =
     let L = c.in-Some.ensures.lookup in
     let k : ℕ = nat_abs (cast_signed w64 (cast_unsigned w64 c.args.next)) in
@@ -38,6 +39,7 @@ returns-clause-some c =
     steps_to c.args.code.now c.args.env.now (state_of c.args.next c.args.scratch.now c.args.store.now c.args.frame.now) c.in-Some.insn.now listed.0 _ at opcode acts
 
 pub returns-clause-only : goal.returns-clause-only
+unfolding IsCarriedOut
 returns-clause-only c = λ outcome steps.
     let L = c.in-Some.ensures.lookup in
     let k : ℕ = nat_abs (cast_signed w64 (cast_unsigned w64 c.args.next)) in
