@@ -8,3 +8,4 @@ pub mod Rows
 pub mod Relocs
 pub mod FirstBreak
 pub mod References
+pub mod NameFronts

@@ -6,7 +6,7 @@ use Rattle.elf_objects.specs.Breaks.{Test, first_place, break_or, first_broken}
 use Rattle.elf_objects.specs.declared.section.Section.{Section}
 use Rattle.elf_objects.specs.declared.symbol.Symbol.{Symbol}
 use Rattle.elf_objects.specs.Section.{section, section_count}
-use Rattle.elf_objects.specs.Names.{HasContents, section_names, is_unnamed, unnamed_section}
+use Rattle.elf_objects.specs.Names.{HasContents, has_name, section_names, is_unnamed, unnamed_section}
 use Rattle.elf_objects.specs.Symbol.{symbol, symbol_count, symbol_place, symbol_names, symbol_tests, is_unnamed_symbol, bad_symbol_table, unnamed_symbol, astray_symbol}
 use Rattle.elf_objects.specs.Reloc.{bad_reloc_table, missing_symbol}
 use Rattle.elf_objects.specs.Header.{test_at}
@@ -82,6 +82,16 @@ pub section_name_within : (file : List ℕ) (k : ℕ) (s : Section) → first_br
 section_name_within file k s unbroken known is =
     subst (λ (t : Section). t.name ≤ length (section_names file)) (sym is)
     (named_section file k (header_passes file (is_unnamed file) k (sound file unbroken).named_sections known))
+
+-- each name ends in its table
+ending_section : (file : List ℕ) (k : ℕ) → is_unnamed file k ≡ false → has_name (section_names file) (section file k).name ≡ true
+unfolding is_unnamed
+ending_section file k named = is_not _ named
+
+pub section_name_ends : (file : List ℕ) (k : ℕ) (s : Section) → first_break file ≡ None → k < section_count file → s ≡ section file k → has_name (section_names file) s.name ≡ true
+section_name_ends file k s unbroken known is =
+    subst (λ (t : Section). has_name (section_names file) t.name ≡ true) (sym is)
+    (ending_section file k (header_passes file (is_unnamed file) k (sound file unbroken).named_sections known))
 
 named_symbol : (file : List ℕ) (k : ℕ) → is_unnamed_symbol file k ≡ false → (symbol file k).name ≤ length (symbol_names file)
 unfolding is_unnamed_symbol

@@ -1,6 +1,8 @@
 //! Tables of names, and the rule E14.
 
-ghost use Rattle.std.specs.Prelude.{◌≡◌, ◌<◌, ◌≤◌, ℕ, ◌==◌, length, nat_lt, position};
+ghost use Rattle.std.specs.Prelude.{◌≡◌, ◌<◌, ◌≤◌, ℕ, ◌==◌, ◌&&◌, not, true, nat_eq, slice_index, length, nat_lt, position};
+ghost use Rattle.std.specs.List.{list_all, starts_with};
+ghost use Rattle.std.specs.Str.{bytes_eq};
 ghost use Rattle.elf_objects.specs.Breaks.{first_place};
 ghost use Rattle.elf_objects.specs.Section.{HasHeaders, section_count};
 ghost use Rattle.elf_objects.specs.Names.{HasContents, has_name, name_at, section_names, is_unnamed, unnamed_section};
@@ -28,6 +30,41 @@ pub(crate) fn name_at(table: &[u8], place: usize) -> &[u8]
         Some(end) => &rest[..end],
         None => rest,
     }
+}
+
+/// Whether the name that begins at this place begins with bytes none of which is 0.
+#[tactic(auto, using(crate::proofs::NameFronts::fronts))]
+pub(crate) fn names_begin_with(table: &[u8], place: usize, front: &[u8]) -> bool
+    requires place { place ≤ length table.now }
+    requires text { list_all (λ byte. not (byte == 0)) front.now ≡ true }
+    ensures { result ≡ starts_with nat_eq (name_at table.now place) front.now }
+{
+    table[place..].starts_with(front)
+}
+
+/// Whether a zero byte stands at a place.
+fn ends_at(bytes: &[u8], place: usize) -> bool
+    ensures { result ≡ (nat_lt place (length bytes.now) && (slice_index bytes.now place == 0)) }
+{
+    place < bytes.len() && bytes[place] == 0
+}
+
+/// Whether bytes begin with a name and a zero byte.
+fn begin_with_name(bytes: &[u8], name: &[u8]) -> bool
+    ensures { result ≡ (starts_with nat_eq bytes.now name.now
+        && (nat_lt (length name.now) (length bytes.now) && (slice_index bytes.now (length name.now) == 0))) }
+{
+    bytes.starts_with(name) && ends_at(bytes, name.len())
+}
+
+/// Whether the name that begins at this place, and ends, is this one, in which no byte is 0.
+pub(crate) fn names_have(table: &[u8], place: usize, name: &[u8]) -> bool
+    requires place { place ≤ length table.now }
+    requires ends { has_name table.now place ≡ true }
+    requires text { list_all (λ byte. not (byte == 0)) name.now ≡ true }
+    ensures { result ≡ bytes_eq (name_at table.now place) name.now }
+{
+    begin_with_name(&table[place..], name)
 }
 
 fn zero_place(bytes: &[u8]) -> Option<usize>

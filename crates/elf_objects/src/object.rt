@@ -1,6 +1,8 @@
 //! An object, and how it is read.
 
-ghost use Rattle.std.specs.Prelude.{◌≡◌, ℕ, ◌<◌, ◌≤◌, ◌⊎◌, ◌↔◌, All, true, length, OnOk, IfOk};
+ghost use Rattle.std.specs.Prelude.{◌≡◌, ◌==◌, not, nat_eq, ℕ, ◌<◌, ◌≤◌, ◌⊎◌, ◌↔◌, All, true, length, OnOk, IfOk};
+ghost use Rattle.std.specs.List.{list_all, starts_with};
+ghost use Rattle.std.specs.Str.{bytes_eq};
 ghost use Rattle.std.specs.Result.{result_err};
 ghost use Rattle.elf_objects.specs.Numbers.{sht_strtab, shn_loreserve};
 ghost use Rattle.elf_objects.specs.Breaks.{first_broken};
@@ -10,10 +12,12 @@ ghost use Rattle.elf_objects.specs.Object.{first_break, IsBroken, IsFirstBreak, 
 
 use crate::bad_elf::{BadElf, ObjectEnd, check_rule};
 use crate::header::check_header;
-use crate::names::{name_at, section_names, unnamed_section};
+use crate::names::{name_at, names_begin_with, names_have, section_names, unnamed_section};
 use crate::reloc::{Reloc, bad_reloc_table, missing_symbol};
 use crate::reloc_tables::RelocTables;
-use crate::section::{Section, compressed_section, content_of, read_sections, section_past_end};
+use crate::section::{
+    Section, compressed_section, content_of, read_sections, section_count, section_past_end,
+};
 use crate::section_kind::REL;
 use crate::symbol::{
     Symbol, astray_symbol, bad_symbol_table, read_symbols, symbol_names, symbol_section,
@@ -111,6 +115,13 @@ impl Object<'_> {
         self.sections.as_slice()
     }
 
+    /// How many sections there are.
+    pub fn section_count(&self) -> u32
+        ensures { result ≡ length (sections self.now) }
+    {
+        section_count(self.file)
+    }
+
     pub fn symbols(&self) -> &[Symbol]
         ensures symbols { result.now ≡ symbols self.now }
         ensures sections { All (λ s. (s.section < length (sections self.now)) ⊎ (shn_loreserve ≤ s.section)) result.now }
@@ -118,7 +129,8 @@ impl Object<'_> {
         self.symbols.as_slice()
     }
 
-    fn section(&self, number: u32) -> Section
+    /// The header of a section.
+    pub fn section(&self, number: u32) -> Section
         requires { number < length (sections self.now) }
         ensures unbroken { first_break self.now ≡ None }
         ensures known { number < section_count self.now }
@@ -127,7 +139,7 @@ impl Object<'_> {
         self.sections[number as usize]
     }
 
-    fn symbol(&self, index: u32) -> Symbol
+    pub fn symbol(&self, index: u32) -> Symbol
         requires { index < length (symbols self.now) }
         ensures unbroken { first_break self.now ≡ None }
         ensures known { index < symbol_count self.now }
@@ -163,6 +175,32 @@ impl Object<'_> {
         ensures { result.now ≡ section_name self.now section }
     {
         name_at(self.section_names, self.section(section).name as usize)
+    }
+
+    /// Whether a section's name begins with bytes none of which is 0. It costs no more for a longer name.
+    pub fn section_begins_with(&self, section: u32, front: &[u8]) -> bool
+        requires known { section < length (sections self.now) }
+        requires text { list_all (λ byte. not (byte == 0)) front.now ≡ true }
+        ensures { result ≡ starts_with nat_eq (section_name self.now section) front.now }
+    {
+        names_begin_with(
+            self.section_names,
+            self.section(section).name as usize,
+            front,
+        )
+    }
+
+    /// Whether a section has this name, in which no byte is 0. It costs no more for a longer name.
+    pub fn section_is(&self, section: u32, name: &[u8]) -> bool
+        requires known { section < length (sections self.now) }
+        requires text { list_all (λ byte. not (byte == 0)) name.now ≡ true }
+        ensures { result ≡ bytes_eq (section_name self.now section) name.now }
+    {
+        names_have(
+            self.section_names,
+            self.section(section).name as usize,
+            name,
+        )
     }
 
     /// A symbol's name, without its zero byte.

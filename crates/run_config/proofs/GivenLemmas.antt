@@ -1,12 +1,11 @@
 -- What is given with one member more.
-use Rattle.std.proofs.Common.{◌≡◌, ℕ, true, false, List, [], ◌∷◌, ◌++◌, codes, Some, None, Err, cond, unwrap_or, refl}
+use Rattle.std.proofs.Common.{◌≡◌, ℕ, true, false, List, [], ◌∷◌, ◌++◌, codes, Some, None, Ok, Err, cond, unwrap_or, refl}
 use Rattle.std.specs.Str.{bytes_eq}
 use Rattle.map_store.specs.declared.spec.MapKind.{MapKind}
 use Rattle.map_store.specs.declared.spec.MapSpec.{MapSpec}
-use Rattle.map_store.specs.Spec.{spec_rule}
 use Rattle.run_config.specs.declared.map_definition.Given.{Given}
 use Rattle.run_config.specs.Given.{given_by, is_contrary_given}
-use Rattle.run_config.specs.MapDefinition.{is_contrary, kept_or, kind_of, size_from, spec_from, spec_of}
+use Rattle.run_config.specs.MapDefinition.{is_contrary, kind_of, size_from, spec_from, spec_of}
 use Rattle.run_config.specs.Values.{Named, last_value}
 use Rattle.run_config.proofs.SettingsLemmas.{last_value-push}
 
@@ -55,7 +54,7 @@ pub spec_of-no_kind : (values : List Named) → is_contrary values ≡ false →
 unfolding spec_of
 spec_of-no_kind values h k = rw (h, number_given values, k) refl
 
-pub spec_of-kind : (values : List Named) (kind : MapKind) → is_contrary values ≡ false → kind_of (unwrap_or (given_by values).kind 0) ≡ Some kind → spec_of values ≡ kept_or (spec_rule (spec_by (given_by values) kind)) (spec_by (given_by values) kind)
+pub spec_of-kind : (values : List Named) (kind : MapKind) → is_contrary values ≡ false → kind_of (unwrap_or (given_by values).kind 0) ≡ Some kind → spec_of values ≡ Ok (spec_by (given_by values) kind)
 unfolding spec_of
 spec_of-kind values kind h k = rw (h, number_given values, k, spec_from-given values kind) refl
 

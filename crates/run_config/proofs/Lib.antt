@@ -13,3 +13,4 @@ pub mod Pairing
 pub mod Parts
 pub mod Resolving
 pub mod SettingsLemmas
+pub mod MapBreaks

@@ -3,30 +3,26 @@ use Rattle.std.proofs.Common.{◌≡◌, ℕ, ◌+◌, List, [], ◌∷◌, ◌+
 use Rattle.std.specs.List.{filter_map}
 use Rattle.std.proofs.lemmas.List.{take_at}
 use Rattle.std.proofs.lemmas.List.Elements.{filter_map-append}
-use Rattle.std.proofs.lemmas.List.Sums.{sum_by_push}
 use Rattle.btf_types.specs.declared.types.Part.{Part}
 use Rattle.btf_types.specs.declared.types.TypeRow.{TypeRow}
 use Rattle.btf_types.specs.TypeTable.{TypeTable}
-use Rattle.run_config.specs.declared.maps.NamedMap.{NamedMap}
-use Rattle.run_config.specs.Maps.{AreMaps, Breaks, IsFirstBreak, Pushes, room_of, total_room}
+use Rattle.run_config.specs.declared.named_map.NamedMap.{NamedMap}
+use Rattle.run_config.specs.Maps.{AreMaps, Breaks, IsFirstBreak, Pushes}
 use Rattle.run_config.specs.Values.{none}
 use Rattle.run_config.specs.Variables.{variable_of}
+use Rattle.run_config.proofs.MapBreaks.{makeable-none}
 use Rattle.run_config.proofs.Pairing.{paired-length, paired-push}
 
 slice_get-seam : {A : Type 0} (xs ys : List A) (x : A) → slice_get (xs ++ x ∷ ys) (length xs) ≡ Some x
 slice_get-seam [] ys x = refl
 slice_get-seam (y ∷ xs) ys x = slice_get-seam xs ys x
 
-pub no_room : total_room [] ≡ 0
-unfolding total_room
-no_room = refl
-
 module _ (types : TypeTable) where
   abbrev pub among : List Part → List TypeRow
   among entries = filter_map (variable_of types) entries
 
   pub are_maps-none : AreMaps types [] []
-  are_maps-none = record { each = none; room = rw no_room (omega arith); count = omega arith }
+  are_maps-none = record { each = none; makeable = makeable-none }
 
   -- an entry that is no variable
   pub are_maps-other : (front more : List Part) (entry : Part) (maps : List NamedMap) → more ≡ front ++ entry ∷ [] → variable_of types entry ≡ None → AreMaps types (among front) maps → AreMaps types (among more) maps
@@ -36,14 +32,12 @@ module _ (types : TypeTable) where
       subst (λ variables. AreMaps types variables maps) (sym (same ∙ kept)) a
 
   -- a variable whose map stands behind the others
-  pub are_maps-push : (front more : List Part) (entry : Part) (variable : TypeRow) (before maps : List NamedMap) (room : ℕ) → more ≡ front ++ entry ∷ [] → variable_of types entry ≡ Some variable → Pushes types variable before maps room → AreMaps types (among front) before → AreMaps types (among more) maps
-  are_maps-push front more entry variable before maps room e some p a =
+  pub are_maps-push : (front more : List Part) (entry : Part) (variable : TypeRow) (before maps : List NamedMap) → more ≡ front ++ entry ∷ [] → variable_of types entry ≡ Some variable → Pushes types variable before maps → AreMaps types (among front) before → AreMaps types (among more) maps
+  are_maps-push front more entry variable before maps e some p a =
       let same : among more ≡ among front ++ variable ∷ [] = rw (e, filter_map-append (variable_of types) front (entry ∷ []), some) refl in
-      let longer : length maps ≡ length before + 1 = ap length p.behind ∙ length-append before (p.map ∷ []) in
       subst (λ variables. AreMaps types variables maps) (sym same) (record {
         each = rw p.behind (paired-push a.each p.is_map);
-        room = omega (arith, p.total, p.fits);
-        count = omega (arith, longer, a.count, p.count);
+        makeable = p.makeable;
       })
 
   -- a variable that breaks a rule behind the maps of those before it
@@ -60,8 +54,3 @@ module _ (types : TypeTable) where
         here = there;
         breaks = breaks;
       }
-
--- the room of one map more
-pub total_room-push : (maps : List NamedMap) (one : NamedMap) → total_room (maps ++ one ∷ []) ≡ total_room maps + room_of one.spec
-unfolding total_room
-total_room-push maps one = sum_by_push (λ (x : NamedMap). room_of x.spec) maps one

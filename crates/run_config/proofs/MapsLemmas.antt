@@ -1,16 +1,18 @@
 -- Maps behind one another, and the one answer.
-use Rattle.std.proofs.Common.{◌≡◌, ℕ, zero, suc, ◌+◌, ◌<◌, ◌≤◌, List, [], ◌∷◌, ◌++◌, length, length-append, take, slice_get, Some, Result, refl, ap, sym, ◌∙◌, subst, inl, inr, arith}
+use Rattle.std.proofs.Common.{◌≡◌, ℕ, zero, suc, ◌+◌, ◌<◌, ◌≤◌, List, [], ◌∷◌, ◌++◌, length, length-append, take, slice_get, None, Some, Result, refl, ap, sym, ◌∙◌, subst, inl, inr, arith}
 use Rattle.std.proofs.lemmas.Bool.{cases_eq, cases_lt}
-use Rattle.std.proofs.lemmas.List.Sums.{sum_by-take-le}
 use Rattle.btf_types.specs.declared.types.TypeRow.{TypeRow}
 use Rattle.btf_types.specs.TypeTable.{TypeTable}
 use Rattle.map_store.specs.declared.spec.MapSpec.{MapSpec}
-use Rattle.run_config.specs.declared.maps.NamedMap.{NamedMap}
+use Rattle.run_config.specs.declared.named_map.NamedMap.{NamedMap}
 use Rattle.run_config.specs.MapDefinition.{Defines, no_structure, bad_member, by_members, IsPlainStructure, spec_of}
 use Rattle.run_config.specs.MapMembers.{ReadsAll}
-use Rattle.run_config.specs.Maps.{AreMaps, Breaks, by_definition, over_count, over_room, IsFirstBreak, IsMap, most_maps, most_room, room_of, total_room}
+use Rattle.map_store.specs.Initial.{AreMakeable}
+use Rattle.run_config.specs.MapRules.{rule_behind}
+use Rattle.run_config.specs.Maps.{AreMaps, Breaks, by_definition, by_map, IsFirstBreak, IsMap, specs_of}
 use Rattle.run_config.specs.Values.{Named, Paired}
 use Rattle.run_config.specs.Variables.{parts_of}
+use Rattle.run_config.proofs.MapBreaks.{makeable-take, no_rule, specs_of-push}
 use Rattle.run_config.proofs.MapReading.{reads_all-unique}
 use Rattle.run_config.proofs.Pairing.{paired-at, paired-take, paired-unique}
 use Rattle.run_config.proofs.Parts.{slice_get-take, take-next}
@@ -51,16 +53,6 @@ module _ (types : TypeTable) where
   pub maps-unique : (variables : List TypeRow) (one other : List NamedMap) → AreMaps types variables one → AreMaps types variables other → one ≡ other
   maps-unique variables one other m n = paired-unique map-unique m.each n.each
 
--- some maps take no more room than all
-room-take : (maps : List NamedMap) (count : ℕ) → total_room (take count maps) ≤ total_room maps
-unfolding total_room
-room-take maps count = sum_by-take-le (λ one. room_of one.spec) maps count
-
-take-length : {A : Type 0} (count : ℕ) (xs : List A) → length (take count xs) ≤ length xs
-take-length zero xs = omega arith
-take-length (suc count) [] = omega arith
-take-length (suc count) (x ∷ xs) = let less = take-length count xs in omega (arith, less)
-
 take-take : {A : Type 0} (count more : ℕ) (xs : List A) → count ≤ more → take count (take more xs) ≡ take count xs
 take-take zero more xs le = refl
 take-take (suc count) zero xs le = absurd (omega arith)
@@ -68,14 +60,13 @@ take-take (suc count) (suc more) [] le = refl
 take-take (suc count) (suc more) (x ∷ xs) le = ap (λ rest. x ∷ rest) (take-take count more xs (omega arith))
 
 module _ (types : TypeTable) where
-  -- a map that fits behind others breaks no rule
-  fits_behind : {before : List NamedMap} {variable : TypeRow} {rule : ℕ} → Breaks types before variable rule → (map : NamedMap) → IsMap types variable map → total_room (before ++ map ∷ []) ≤ most_room → length before < most_maps → ⊥
-  fits_behind (by_definition d) map is fits few = let e = defines-unique types d is.spec in cc
-  fits_behind {before = before} {variable = variable} (over_room {map = other} m over) map is fits few =
+  -- a map that keeps the rules behind others breaks none
+  fits_behind : {before : List NamedMap} {variable : TypeRow} {rule : ℕ} → Breaks types before variable rule → (map : NamedMap) → IsMap types variable map → rule_behind (specs_of before) map.spec ≡ None → ⊥
+  fits_behind (by_definition d) map is none = let e = defines-unique types d is.spec in cc
+  fits_behind {before = before} {variable = variable} (by_map {map = other} {rule = rule} m broken) map is none =
       let same = map-unique types variable other map m is in
-      let much : most_room < total_room (before ++ map ∷ []) = subst (λ x. most_room < total_room (before ++ x ∷ [])) same over in
-      omega (arith, much, fits)
-  fits_behind (over_count m kept full) map is fits few = omega (arith, full, few)
+      let here : rule_behind (specs_of before) map.spec ≡ Some rule = subst (λ (x : NamedMap). rule_behind (specs_of before) x.spec ≡ Some rule) same broken in
+      absurd (cc)
 
   -- where all variables are maps, none breaks a rule
   pub no_break : (variables : List TypeRow) (maps before : List NamedMap) (index rule : ℕ) (variable : TypeRow) → AreMaps types variables maps → Paired (IsMap types) (take index variables) before → slice_get variables index ≡ Some variable → Breaks types before variable rule → ⊥
@@ -83,29 +74,21 @@ module _ (types : TypeTable) where
       let there = paired-at index m.each here in
       let front : take index maps ≡ before = paired-unique (map-unique types) (paired-take index m.each) b in
       let more : take (index + 1) maps ≡ before ++ there.0 ∷ [] = take-next maps index there.0 there.2 ∙ ap (λ xs. xs ++ there.0 ∷ []) front in
-      let room : total_room (before ++ there.0 ∷ []) ≤ total_room maps = subst (λ xs. total_room xs ≤ total_room maps) more (room-take maps (index + 1)) in
-      let count : length (before ++ there.0 ∷ []) ≤ length maps = subst (λ xs. length xs ≤ length maps) more (take-length (index + 1) maps) in
-      fits_behind breaks there.0 there.1 (omega (arith, room, m.room)) (omega (arith, length-append before (there.0 ∷ []), count, m.count))
+      let specs : specs_of (take (index + 1) maps) ≡ specs_of before ++ there.0.spec ∷ [] = ap specs_of more ∙ specs_of-push before there.0 in
+      let makeable = subst AreMakeable specs (makeable-take maps (index + 1) m.makeable) in
+      fits_behind breaks there.0 there.1 (no_rule (specs_of before) there.0.spec makeable)
 
   pub apart : (variables : List TypeRow) (maps : List NamedMap) (index rule : ℕ) → AreMaps types variables maps → IsFirstBreak types variables index rule → ⊥
   apart variables maps index rule m b = no_break variables maps b.maps index rule b.variable m b.before.each b.here b.breaks
 
   one_rule : {before : List NamedMap} {variable : TypeRow} {one other : ℕ} → Breaks types before variable one → Breaks types before variable other → one ≡ other
   one_rule (by_definition d) (by_definition e) = let same = defines-unique types d e in cc
-  one_rule (by_definition d) (over_room m over) = let same = defines-unique types d m.spec in cc
-  one_rule (by_definition d) (over_count m fits full) = let same = defines-unique types d m.spec in cc
-  one_rule (over_room m over) (by_definition d) = let same = defines-unique types d m.spec in cc
-  one_rule (over_room m over) (over_room n more) = refl
-  one_rule {before = before} {variable = variable} (over_room {map = map} m over) (over_count {map = another} n fits full) =
+  one_rule (by_definition d) (by_map m broken) = let same = defines-unique types d m.spec in cc
+  one_rule (by_map m broken) (by_definition d) = let same = defines-unique types d m.spec in cc
+  one_rule {before = before} {variable = variable} {one = one} (by_map {map = map} m broken) (by_map {map = another} n again) =
       let same = map-unique types variable map another m n in
-      let much : most_room < total_room (before ++ another ∷ []) = subst (λ x. most_room < total_room (before ++ x ∷ [])) same over in
-      absurd (omega (arith, much, fits))
-  one_rule (over_count m fits full) (by_definition d) = let same = defines-unique types d m.spec in cc
-  one_rule {before = before} {variable = variable} (over_count {map = map} m fits full) (over_room {map = another} n over) =
-      let same = map-unique types variable another map n m in
-      let much : most_room < total_room (before ++ map ∷ []) = subst (λ x. most_room < total_room (before ++ x ∷ [])) same over in
-      absurd (omega (arith, much, fits))
-  one_rule (over_count m fits full) (over_count n more again) = refl
+      let here : rule_behind (specs_of before) another.spec ≡ Some one = subst (λ (x : NamedMap). rule_behind (specs_of before) x.spec ≡ Some one) same broken in
+      cc
 
   no_break_before : (variables : List TypeRow) {index earlier rule another : ℕ} → IsFirstBreak types variables index rule → IsFirstBreak types variables earlier another → earlier < index → ⊥
   no_break_before variables {index = index} {earlier = earlier} {another = another} b e less =

@@ -9,4 +9,5 @@ pub mod MapMembers
 pub mod MapDefinition
 pub mod FieldName
 pub mod Given
+pub mod MapRules
 pub mod Maps

@@ -1,4 +1,4 @@
--- What a map's definition says, and the rules M1 to M8 that it keeps.
+-- What a map's definition says, and the rules M1 to M5 that it keeps.
 use Rattle.std.specs.Prelude.{◌≡◌, ℕ, ◌==◌, ◌||◌, Bool, false, not, nat_lt, List, [], codes, Option, Some, None, unwrap_or, Result, Ok, Err, if◌then◌else◌}
 use Rattle.std.specs.Option.{option_or}
 use Rattle.btf_types.specs.declared.types.TypeRow.{TypeRow}
@@ -7,7 +7,6 @@ use Rattle.btf_types.specs.TypeTable.{TypeTable, type_at}
 use Rattle.map_store.specs.declared.spec.MapKind.{MapKind}
 use Rattle.map_store.specs.declared.spec.MapKind.TheVariants.{Hash, Array, PercpuHash, PercpuArray}
 use Rattle.map_store.specs.declared.spec.MapSpec.{MapSpec}
-use Rattle.map_store.specs.Spec.{spec_rule}
 use Rattle.run_config.specs.Values.{Named, last_value}
 use Rattle.run_config.specs.Variables.{parts_of}
 use Rattle.run_config.specs.MapMembers.{ReadsAll}
@@ -31,7 +30,7 @@ differ (Some one) None = false
 abbrev pub size_from : Option ℕ → Option ℕ → ℕ
 size_from number type = unwrap_or (option_or number type) 0
 
--- a map that keeps the rules 1 to 4, by the numbers that its members give: what isn't given is 0
+-- a map by the numbers that its members give: what isn't given is 0
 unfoldable pub spec_from : List Named → MapKind → MapSpec
 spec_from values kind = record {
   kind = kind;
@@ -48,26 +47,22 @@ is_contrary values =
     || differ (last_value (codes "value_size") values) (last_value (codes "value") values)
     || nat_lt 1 (unwrap_or (last_value (codes "map_flags") values) 0)
 
-abbrev pub kept_or : Option ℕ → MapSpec → Result MapSpec ℕ
-kept_or None spec = Ok spec
-kept_or (Some rule) spec = Err rule
+abbrev pub with_kind : List Named → Option MapKind → Result MapSpec ℕ
+with_kind values None = Err 5
+with_kind values (Some kind) = Ok (spec_from values kind)
 
-abbrev pub checked_kind : List Named → Option MapKind → Result MapSpec ℕ
-checked_kind values None = Err 5
-checked_kind values (Some kind) = kept_or (spec_rule (spec_from values kind)) (spec_from values kind)
-
--- the map of these numbers, or the first of the rules 4 to 8 that they break
+-- the map of these numbers, or the first of the rules 4 and 5 that they break
 unfoldable pub spec_of : List Named → Result MapSpec ℕ
 spec_of values =
     if is_contrary values then Err 4
-    else checked_kind values (kind_of (unwrap_or (last_value (codes "type") values) 0))
+    else with_kind values (kind_of (unwrap_or (last_value (codes "type") values) 0))
 
 -- the row of a structure, with no modifier in front
 pub record IsPlainStructure (types : TypeTable) (number : ℕ) (structure : TypeRow) : Type 0 where
   pub row : type_at types number ≡ Some structure
   pub kind : structure.kind ≡ STRUCT
 
--- the map that a type defines, or the first of the rules M1 to M8 that it breaks
+-- the map that a type defines, or the first of the rules M1 to M5 that it breaks
 pub data Defines (types : TypeTable) (number : ℕ) : Result MapSpec ℕ → Type 0 where
   no_structure : ((structure : TypeRow) → IsPlainStructure types number structure → ⊥) → Defines types number (Err 1)
   bad_member : {structure : TypeRow} {rule : ℕ} → IsPlainStructure types number structure

@@ -3,7 +3,7 @@
 ghost use Rattle.std.specs.Prelude.{◌≡◌, ℕ, List};
 ghost use Rattle.btf_types.specs.declared.types.TypeRow.{TypeRow};
 ghost use Rattle.btf_types.specs.TypeTable.{TypeTable};
-ghost use Rattle.run_config.specs.declared.maps.NamedMap.{NamedMap};
+ghost use Rattle.run_config.specs.declared.named_map.NamedMap.{NamedMap};
 ghost use Rattle.run_config.specs.Maps.{AreMaps, IsFirstBreak};
 
 /// Variables have one answer: one list of maps, or one that breaks a rule first, and one rule that it breaks.

@@ -7,12 +7,14 @@ pub mod laws;
 mod map_definition;
 mod map_member;
 mod maps;
+mod named_map;
 mod resolution;
 mod settings;
 mod variables;
 
 pub use config::{BadConfig, config_of};
-pub use maps::{MapsEnd, NamedMap, maps_of};
+pub use maps::maps_of;
+pub use named_map::{MapsEnd, NamedMap, add_map};
 pub use settings::RunConfig;
 
 #[cfg(test)]

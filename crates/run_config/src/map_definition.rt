@@ -4,7 +4,6 @@ ghost use Rattle.std.specs.Prelude.{◌≡◌, ◌≤◌, ◌↔◌, [], ◌∷�
 ghost use Rattle.btf_types.specs.declared.types.Part.{Part};
 ghost use Rattle.btf_types.specs.declared.types.TypeRow.{TypeRow};
 ghost use Rattle.btf_types.specs.TypeTable.{RowFits, TypeTable};
-ghost use Rattle.map_store.specs.Spec as rules_of;
 ghost use Rattle.run_config.specs.FieldName.{field_name};
 ghost use Rattle.run_config.specs.Given.{given_by, is_contrary_given, AreGiven, IsRead};
 ghost use Rattle.run_config.specs.MapDefinition.{differ, kind_of, spec_of, Defines, IsPlainStructure};
@@ -15,7 +14,7 @@ use crate::map_member::{Field, read_member};
 use crate::variables::part_at;
 use btf_types::{TypeRow, Types, kind};
 use lists::Bytes;
-use map_store::{MapKind, MapSpec, spec_rule};
+use map_store::{MapKind, MapSpec};
 use std::alloc::Global;
 
 /// The numbers that the members of a definition give, the last of each name.
@@ -101,10 +100,10 @@ impl Given {
             || self.map_flags.unwrap_or(0) > 1
     }
 
-    /// The map of these numbers, or the first of the rules 4 to 8 that they break.
+    /// The map of these numbers, or the first of the rules 4 and 5 that they break.
     fn spec(self, alloc: Global) -> Result<MapSpec, u8>
         ensures spec { (values : List Named) → self ≡ given_by values → result ≡ spec_of values }
-        ensures kept { IfOk result (λ spec. rules_of.spec_rule spec ≡ None) }
+        ensures initial { IfOk result (λ spec. spec.initial ≡ []) }
     {
         if self.is_contrary() {
             return Err(4);
@@ -112,17 +111,13 @@ impl Given {
         let Some(kind) = kind_of(self.kind.unwrap_or(0)) else {
             return Err(5);
         };
-        let spec = MapSpec {
+        Ok(MapSpec {
             kind,
             key_size: self.key_size.or(self.key).unwrap_or(0),
             value_size: self.value_size.or(self.value).unwrap_or(0),
             max_entries: self.max_entries.unwrap_or(0),
             initial: Bytes::new(alloc),
-        };
-        match spec_rule(&spec) {
-            Some(rule) => Err(rule),
-            None => Ok(spec),
-        }
+        })
     }
 }
 
@@ -166,11 +161,11 @@ fn structure_at(types: &Types, number: u32) -> Option<&TypeRow>
     (row.kind == kind::STRUCT).then_some(row)
 }
 
-/// The map that a type defines, or the first of the rules 1 to 8 that it breaks. It takes no memory.
+/// The map that a type defines, or the first of the rules 1 to 5 that it breaks. It takes no memory.
 pub(crate) fn map_spec(alloc: Global, types: &Types, number: u32) -> Result<MapSpec, u8>
     requires { number ≤ length types.now.rows }
     ensures defines { Defines types.now number result }
-    ensures kept { IfOk result (λ spec. rules_of.spec_rule spec ≡ None) }
+    ensures initial { IfOk result (λ spec. spec.initial ≡ []) }
 {
     let Some(structure) = structure_at(types, number) else {
         return Err(1);

@@ -6,5 +6,7 @@ pub mod Ip6Lemmas
 pub mod LineLemmas
 pub mod NumberLemmas
 pub mod PartLemmas
+pub mod PieceLemmas
+pub mod ReadBack
 pub mod TableLemmas
 pub mod WordLemmas

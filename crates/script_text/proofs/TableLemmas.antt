@@ -1,6 +1,7 @@
 -- The table's lines, one after the other.
-use Rattle.std.proofs.Common.{◌≡◌, ℕ, suc, ◌+◌, List, ◌∷◌, ◌++◌, drop, get_or, Some, ◌∙◌, ap, append_assoc, arith, drop-cons}
+use Rattle.std.proofs.Common.{◌≡◌, ℕ, suc, ◌+◌, ◌≤◌, length, List, [], ◌∷◌, ◌++◌, drop, get_or, Some, ◌∙◌, ap, arith, drop-cons}
 use Rattle.std.specs.Prelude.{find, slice_get, ◌==◌}
+use Rattle.std.proofs.lemmas.List.{drop_all}
 use Rattle.std.proofs.lemmas.Option.{slice_get_within, get_or_from_slice_get}
 use Rattle.filter_rules.specs.declared.rule.RuleRow.{RuleRow}
 use Rattle.xdp_state.specs.Hits.{hits_in}
@@ -15,16 +16,21 @@ drop_at xs i x is =
     drop-cons xs i x (slice_get_within xs i x is) ∙ ap (λ n. get_or xs i x ∷ drop n xs) next
     ∙ ap (λ y. y ∷ drop (i + 1) xs) (get_or_from_slice_get xs i x x is)
 
-pub rows_more : (hits : List HitRow) (rows : List RuleRow) (i : ℕ) (row : RuleRow) (text more : List ℕ) → slice_get rows i ≡ Some row
-    → more ≡ text ++ row_line row (hits_in hits row.number)
-    → more ++ rows_text hits (drop (i + 1) rows) ≡ text ++ rows_text hits (drop i rows)
-rows_more hits rows i row text more here line =
-    rw (line, drop_at rows i row here) (append_assoc text (row_line row (hits_in hits row.number)) (rows_text hits (drop (i + 1) rows)))
+-- the row at a place, and those behind it
+pub rows_text-drop : (hits : List HitRow) (rows : List RuleRow) (place : ℕ) (row : RuleRow) → slice_get rows place ≡ Some row
+    → rows_text hits (drop place rows) ≡ row_line row (hits_in hits row.number) ++ rows_text hits (drop (place + 1) rows)
+rows_text-drop hits rows place row here = ap (rows_text hits) (drop_at rows place row here)
 
-pub filters_more : (members : List Attachment) (interfaces : List Interface) (place : ℕ) (interface : Interface) (text more : List ℕ)
-    → slice_get interfaces place ≡ Some interface
-    → more ≡ text ++ member_line interface.name (find (λ m. m.interface == place) members)
-    → more ++ filters_from members (place + 1) (drop (place + 1) interfaces) ≡ text ++ filters_from members place (drop place interfaces)
-filters_more members interfaces place interface text more here line =
-    rw (line, drop_at interfaces place interface here)
-    (append_assoc text (member_line interface.name (find (λ m. m.interface == place) members)) (filters_from members (place + 1) (drop (place + 1) interfaces)))
+-- behind the last row
+pub rows_text-none : (hits : List HitRow) (rows : List RuleRow) (place : ℕ) → length rows ≤ place → rows_text hits (drop place rows) ≡ []
+rows_text-none hits rows place past = ap (rows_text hits) (drop_all place rows past)
+
+-- the interface at a place, and those behind it
+pub filters_from-drop : (members : List Attachment) (interfaces : List Interface) (place : ℕ) (interface : Interface) → slice_get interfaces place ≡ Some interface
+    → filters_from members place (drop place interfaces)
+    ≡ member_line interface.name (find (λ m. m.interface == place) members) ++ filters_from members (place + 1) (drop (place + 1) interfaces)
+filters_from-drop members interfaces place interface here = ap (filters_from members place) (drop_at interfaces place interface here)
+
+-- behind the last interface
+pub filters_from-none : (members : List Attachment) (interfaces : List Interface) (place : ℕ) → length interfaces ≤ place → filters_from members place (drop place interfaces) ≡ []
+filters_from-none members interfaces place past = ap (filters_from members place) (drop_all place interfaces past)

@@ -4,12 +4,15 @@ pub mod Frames
 pub mod Handed
 pub mod Interfaces
 pub mod Lists
+pub mod NameLists
 pub mod Names
 pub mod Numbers
 pub mod Options
+pub mod Pieces
 pub mod Readings
 pub mod Script
 pub mod Table
 pub mod Texts
 pub mod Trace
+pub mod Vocabulary
 pub mod Words

@@ -1,54 +1,27 @@
--- Choices, and lists of words with commas between them, each word at most once.
+-- Lists of words with commas between them, each word at most once.
 use Rattle.std.specs.Prelude.{ℕ, ◌==◌, ◌||◌, bit_and, bit_or, List, [], ◌∷◌, codes, Option, Some, None, option_and_then, if◌then◌else◌}
 use Rattle.std.specs.Str.{bytes_eq}
-use Rattle.filter_rules.specs.declared.policy.Policy.{Policy}
-use Rattle.filter_rules.specs.declared.policy.Policy.TheVariants.{Allow, Deny}
-use Rattle.xdp_state.specs.declared.attachment.Mode.{Mode}
-use Rattle.xdp_state.specs.declared.attachment.Mode.TheVariants.{Native, Skb}
+use Rattle.script_text.specs.Vocabulary.{address_flag_name, feature_name, feature_of}
 use Rattle.script_text.specs.Words.{parts_of}
 use Rattle.script_text.specs.declared.word_lists.Directions.{Directions}
 use Rattle.script_text.specs.declared.word_lists.Directions.TheVariants as direction
 use Rattle.script_text.specs.declared.word_lists.Protocols.{Protocols}
 use Rattle.script_text.specs.declared.word_lists.Protocols.TheVariants as protocol
 
--- one of three words; `unspecified` is native
-abbrev pub mode_of : List ℕ → Option Mode
-mode_of word =
-    if bytes_eq word (codes "native") then Some Native
-    else if bytes_eq word (codes "skb") then Some Skb
-    else if bytes_eq word (codes "unspecified") then Some Native
-    else None
-
-abbrev pub policy_of : List ℕ → Option Policy
-policy_of word =
-    if bytes_eq word (codes "allow") then Some Allow
-    else if bytes_eq word (codes "deny") then Some Deny
-    else None
-
 -- the lists of `src` and `dst`
 abbrev pub directions_of : List ℕ → Option Directions
 directions_of list =
-    if bytes_eq list (codes "src") then Some direction.Source
-    else if bytes_eq list (codes "dst") then Some direction.Target
+    if bytes_eq list (address_flag_name 1) then Some direction.Source
+    else if bytes_eq list (address_flag_name 2) then Some direction.Target
     else if bytes_eq list (codes "src,dst") || bytes_eq list (codes "dst,src") then Some direction.Both
     else None
 
 -- the lists of `tcp` and `udp`
 abbrev pub protocols_of : List ℕ → Option Protocols
 protocols_of list =
-    if bytes_eq list (codes "tcp") then Some protocol.Tcp
-    else if bytes_eq list (codes "udp") then Some protocol.Udp
+    if bytes_eq list (feature_name 1) then Some protocol.Tcp
+    else if bytes_eq list (feature_name 2) then Some protocol.Udp
     else if bytes_eq list (codes "tcp,udp") || bytes_eq list (codes "udp,tcp") then Some protocol.Both
-    else None
-
--- the bit of a feature
-abbrev pub feature_of : List ℕ → Option ℕ
-feature_of word =
-    if bytes_eq word (codes "tcp") then Some 1
-    else if bytes_eq word (codes "udp") then Some 2
-    else if bytes_eq word (codes "ipv4") then Some 4
-    else if bytes_eq word (codes "ipv6") then Some 8
-    else if bytes_eq word (codes "ethernet") then Some 16
     else None
 
 -- the bits of the features so far and of those behind them, no feature twice

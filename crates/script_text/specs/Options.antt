@@ -1,7 +1,8 @@
 -- The words behind `xdp-filter VERB`: the verb's options, and the one word of its own that most verbs have.
 use Rattle.std.specs.Prelude.{ℕ, ◌||◌, Bool, true, false, List, [], ◌∷◌, codes, Option, Some, None, is_some, Result, Ok, Err, if◌then◌else◌}
 use Rattle.std.specs.Str.{bytes_eq}
-use Rattle.script_text.specs.Lists.{mode_of, policy_of, directions_of, protocols_of, features_of}
+use Rattle.script_text.specs.Lists.{directions_of, protocols_of, features_of}
+use Rattle.script_text.specs.Vocabulary.{mode_of, policy_of}
 use Rattle.script_text.specs.Readings.{◌>>=◌, found}
 use Rattle.script_text.specs.Words.{is_option}
 use Rattle.script_text.specs.declared.options.Given.{Given}

@@ -4,8 +4,11 @@ use Rattle.std.specs.Fmt.{decimal}
 use Rattle.xdp_state.specs.declared.judgement.Reason.{Reason}
 use Rattle.xdp_state.specs.declared.judgement.Reason.TheVariants.{NoInterface, FilterThere, FilterNotThere, FeatureMissing, RulesFull, NoSuchRule}
 use Rattle.xdp_state.specs.declared.tally.Tally.{Tally}
+use Rattle.xio.specs.declared.action.Action.{Action}
+use Rattle.xio.specs.declared.action.Action.TheVariants.{Aborted, Drop, Pass, Tx, Redirect}
 use Rattle.script_text.specs.declared.outcome.Outcome.{Outcome}
 use Rattle.script_text.specs.declared.outcome.Outcome.TheVariants as outcome
+use Rattle.script_text.specs.Vocabulary.{action_name}
 
 abbrev pub reason_text : Reason → List ℕ
 reason_text NoInterface = codes "no such interface"
@@ -15,38 +18,38 @@ reason_text FeatureMissing = codes "feature missing"
 reason_text RulesFull = codes "rules full"
 reason_text NoSuchRule = codes "no such rule"
 
+-- a line that ends with a count
+abbrev pub counted : ℕ → List ℕ → ℕ → List ℕ
+counted line word count = decimal line ++ (word ++ (decimal count ++ codes "\n"))
+
 -- what came of a line, without the lines of a table or of processors
 unfoldable pub outcome_text : ℕ → Outcome → List ℕ
-outcome_text line (outcome.Ok number) = decimal line ++ (codes " ok " ++ (decimal number ++ codes "\n"))
+outcome_text line (outcome.Ok number) = counted line (codes " ok ") number
 outcome_text line outcome.Shown = decimal line ++ codes " ok\n"
 outcome_text line (outcome.Refused reason) = decimal line ++ (codes " refused " ++ (reason_text reason ++ codes "\n"))
-outcome_text line (outcome.Handed packets) = decimal line ++ (codes " handed " ++ (decimal packets ++ codes "\n"))
-outcome_text line (outcome.Barrier count) = decimal line ++ (codes " barrier " ++ (decimal count ++ codes "\n"))
+outcome_text line (outcome.Handed packets) = counted line (codes " handed ") packets
+outcome_text line (outcome.Barrier count) = counted line (codes " barrier ") count
 
 -- the script's end
 unfoldable pub end_text : ℕ → List ℕ
 end_text count = codes "end " ++ (decimal count ++ codes "\n")
 
--- which processor it is, and which queue of an interface it serves
-abbrev pub place_text : ℕ → List ℕ
-place_text processor = codes "  cpu " ++ (decimal processor ++ codes " ")
+-- which processor it is, which queue of an interface it serves, and the packets and the bytes of all five actions
+abbrev pub totals_text : ℕ → List ℕ → ℕ → Tally → List ℕ
+totals_text processor interface queue tally =
+    codes "  cpu " ++ (decimal processor ++ (codes " " ++ (interface ++ (codes "/" ++ (decimal queue
+    ++ (codes " packets " ++ (decimal (sum tally.packets) ++ (codes " bytes " ++ decimal (sum tally.bytes)))))))))
 
-abbrev pub queue_text : ℕ → List ℕ
-queue_text queue = codes "/" ++ decimal queue
-
--- the packets and the bytes of all five actions
-abbrev pub totals_text : Tally → List ℕ
-totals_text tally =
-    codes " packets " ++ (decimal (sum tally.packets) ++ (codes " bytes " ++ decimal (sum tally.bytes)))
+-- the packets of an action, in front of more
+abbrev pub action_text : Action → ℕ → List ℕ → List ℕ
+action_text action packets more = codes " " ++ (action_name action ++ (codes " " ++ (decimal packets ++ more)))
 
 -- the packets of each action
 abbrev pub actions_text : List ℕ → List ℕ
 actions_text packets =
-    codes " aborted " ++ (decimal (slice_index packets 0) ++ (codes " drop " ++ (decimal (slice_index packets 1)
-    ++ (codes " pass " ++ (decimal (slice_index packets 2) ++ (codes " tx " ++ (decimal (slice_index packets 3)
-    ++ (codes " redirect " ++ (decimal (slice_index packets 4) ++ codes "\n")))))))))
+    action_text Aborted (slice_index packets 0) (action_text Drop (slice_index packets 1) (action_text Pass (slice_index packets 2)
+    (action_text Tx (slice_index packets 3) (action_text Redirect (slice_index packets 4) (codes "\n")))))
 
 -- what a processor, which serves a queue of an interface, has carried
 unfoldable pub processor_line : ℕ → List ℕ → ℕ → Tally → List ℕ
-processor_line processor interface queue tally =
-    place_text processor ++ interface ++ queue_text queue ++ totals_text tally ++ actions_text tally.packets
+processor_line processor interface queue tally = totals_text processor interface queue tally ++ actions_text tally.packets

@@ -1,75 +1,93 @@
-ghost use Rattle.std.specs.Prelude.{◌≡◌, ◌<◌, ◌==◌, ◌%◌, length, IfOk, OnOk, ◌++◌, [], ◌∷◌, string_bytes};
-ghost use Rattle.hex.specs.Hex.{encode_lower};
-ghost use Rattle.script_text.specs.Table.{colon_before, grouped, ip4_text, key_text};
+ghost use Rattle.std.specs.Prelude.{◌≡◌};
+ghost use Rattle.script_text.specs.Table.{ip4_text, ip6_text, ether_text, key_text};
+ghost use Rattle.xio.specs.Printing.{Prints};
 
-use crate::text::bytes_of;
+use crate::piece::{Piece, print_line};
 use filter_rules::{RuleKey, RuleKind};
-use std::alloc::{AllocError, Global};
-use xio::{Bytes, OutOfMemory};
+use xio::Printer;
 
-/// Appends a digit, and in front of it a colon where a further group of so many digits begins.
-fn push_digit(text: &mut Bytes, size: usize, place: usize, digit: u8) -> Result<(), OutOfMemory>
-    requires { 0 < size }
-    ensures { OnOk result (text.new ≡ text.old ++ (colon_before size place ++ digit ∷ [])) }
+/// Prints an IPv4 address, the last four of sixteen bytes.
+#[tactic(auto, unfolding(crate::specs::Table::ip4_text))]
+fn ip4_print<P: Printer>(printer: &mut P, bytes: &[u8; 16]) -> Result<(), P::End>
+    ensures { Prints P.tells P.counts (P.state printer.old) (P.state printer.new) (ip4_text bytes.now) result }
 {
-    if place != 0 && place % size == 0 {
-        text.push(b':')?;
-    }
-    text.push(digit)
+    print_line(
+        printer,
+        &[
+            Piece::Text(b"ip "),
+            Piece::Number(u128::from(bytes[12])),
+            Piece::Text(b"."),
+            Piece::Number(u128::from(bytes[13])),
+            Piece::Text(b"."),
+            Piece::Number(u128::from(bytes[14])),
+            Piece::Text(b"."),
+            Piece::Number(u128::from(bytes[15])),
+        ],
+    )
 }
 
-/// Digits in groups of so many, with colons between.
-#[tactic(auto, unfolding(crate::specs::Table::grouped))]
-fn grouped(alloc: Global, size: usize, digits: &[u8]) -> Result<Bytes, OutOfMemory>
-    requires { 0 < size }
-    ensures { IfOk result (λ text. text ≡ grouped size digits.now) }
+/// Prints an IPv6 address.
+#[tactic(auto, unfolding(crate::specs::Table::ip6_text))]
+fn ip6_print<P: Printer>(printer: &mut P, bytes: &[u8; 16]) -> Result<(), P::End>
+    ensures { Prints P.tells P.counts (P.state printer.old) (P.state printer.new) (ip6_text bytes.now) result }
 {
-    let mut text = Bytes::new(alloc);
-    for place in 0..digits.len() {
-        push_digit(&mut text, size, place, digits[place])?;
-    }
-    Ok(text)
+    print_line(
+        printer,
+        &[
+            Piece::Text(b"ip "),
+            Piece::Digits(&[bytes[0], bytes[1]]),
+            Piece::Text(b":"),
+            Piece::Digits(&[bytes[2], bytes[3]]),
+            Piece::Text(b":"),
+            Piece::Digits(&[bytes[4], bytes[5]]),
+            Piece::Text(b":"),
+            Piece::Digits(&[bytes[6], bytes[7]]),
+            Piece::Text(b":"),
+            Piece::Digits(&[bytes[8], bytes[9]]),
+            Piece::Text(b":"),
+            Piece::Digits(&[bytes[10], bytes[11]]),
+            Piece::Text(b":"),
+            Piece::Digits(&[bytes[12], bytes[13]]),
+            Piece::Text(b":"),
+            Piece::Digits(&[bytes[14], bytes[15]]),
+        ],
+    )
 }
 
-/// The last four of an address's bytes.
-fn ip4_text(alloc: Global, bytes: &[u8; 16]) -> Result<String, AllocError>
-    ensures { IfOk result (λ text. string_bytes text ≡ ip4_text bytes.now) }
+/// Prints an Ethernet address, the last six of sixteen bytes.
+#[tactic(auto, unfolding(crate::specs::Table::ether_text))]
+fn ether_print<P: Printer>(printer: &mut P, bytes: &[u8; 16]) -> Result<(), P::End>
+    ensures { Prints P.tells P.counts (P.state printer.old) (P.state printer.new) (ether_text bytes.now) result }
 {
-    let (a, b, c, d) = (bytes[12], bytes[13], bytes[14], bytes[15]);
-    format!(in alloc; "{a}.{b}.{c}.{d}")
+    print_line(
+        printer,
+        &[
+            Piece::Text(b"ether "),
+            Piece::Digits(&[bytes[10]]),
+            Piece::Text(b":"),
+            Piece::Digits(&[bytes[11]]),
+            Piece::Text(b":"),
+            Piece::Digits(&[bytes[12]]),
+            Piece::Text(b":"),
+            Piece::Digits(&[bytes[13]]),
+            Piece::Text(b":"),
+            Piece::Digits(&[bytes[14]]),
+            Piece::Text(b":"),
+            Piece::Digits(&[bytes[15]]),
+        ],
+    )
 }
 
-/// Bytes in lower-case digits, in groups of so many.
-fn digits_text(alloc: Global, size: usize, bytes: &[u8]) -> Result<Bytes, OutOfMemory>
-    requires { 0 < size }
-    ensures { IfOk result (λ text. text ≡ grouped size (encode_lower bytes.now)) }
-{
-    let digits = hex::encode(alloc, bytes)?;
-    grouped(alloc, size, digits.as_bytes())
-}
-
-fn labelled(alloc: Global, label: &[u8], text: &[u8]) -> Result<Bytes, OutOfMemory>
-    ensures { IfOk result (λ all. all ≡ label.now ++ text.now) }
-{
-    let mut all = bytes_of(alloc, label)?;
-    all.append(text)?;
-    Ok(all)
-}
-
-/// What a rule speaks of, as it is printed.
+/// Prints what a rule speaks of.
 #[tactic(auto, unfolding(crate::specs::Table::key_text))]
-pub fn key_text(alloc: Global, key: RuleKey) -> Result<Bytes, OutOfMemory>
-    ensures { IfOk result (λ text. text ≡ key_text key) }
+pub fn key_print<P: Printer>(printer: &mut P, key: RuleKey) -> Result<(), P::End>
+    ensures { Prints P.tells P.counts (P.state printer.old) (P.state printer.new) (key_text key) result }
 {
-    let value = key.value;
-    let bytes = value.to_be_bytes();
+    let bytes = key.value.to_be_bytes();
     match key.kind {
-        RuleKind::Port => bytes_of(alloc, format!(in alloc; "port {value}")?.as_bytes()),
-        RuleKind::Ip4 => labelled(alloc, b"ip ", ip4_text(alloc, &bytes)?.as_bytes()),
-        RuleKind::Ip6 => labelled(alloc, b"ip ", digits_text(alloc, 4, &bytes)?.as_slice()),
-        RuleKind::Ether => {
-            let digits = digits_text(alloc, 2, &bytes[10..])?;
-            labelled(alloc, b"ether ", digits.as_slice())
-        }
+        RuleKind::Port => print_line(printer, &[Piece::Text(b"port "), Piece::Number(key.value)]),
+        RuleKind::Ip4 => ip4_print(printer, &bytes),
+        RuleKind::Ip6 => ip6_print(printer, &bytes),
+        RuleKind::Ether => ether_print(printer, &bytes),
     }
 }

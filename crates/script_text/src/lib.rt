@@ -9,6 +9,7 @@ mod interfaces;
 mod ip4;
 mod ip6;
 mod key_text;
+mod laws;
 mod line;
 mod lines;
 mod name;
@@ -17,6 +18,7 @@ mod numbers;
 mod options;
 mod outcome;
 mod parts;
+mod piece;
 mod processor;
 mod reading;
 mod rule;
@@ -24,15 +26,18 @@ mod script;
 mod table;
 mod text;
 mod trace;
+mod vocabulary;
 mod what;
 mod word_lists;
 mod words;
 
-pub use outcome::{Outcome, end_text, outcome_text};
-pub use processor::processor_line;
+pub use laws::reads_back;
+pub use outcome::{Outcome, end_print, end_text, outcome_print, outcome_text};
+pub use processor::{processor_line, processor_print};
 pub use script::{Script, ScriptEnd, read_script};
-pub use table::rules_text;
-pub use trace::{TraceRow, trace_line};
+pub use table::{rules_print, rules_text};
+pub use trace::{TraceRow, trace_line, trace_print};
+pub use vocabulary::{action_name, action_of, mode_name, mode_of, policy_name, policy_of};
 pub use what::{Line, LineList, What};
 
 #[cfg(test)]

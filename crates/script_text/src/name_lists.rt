@@ -1,67 +1,73 @@
-ghost use Rattle.std.specs.Prelude.{◌≡◌, IfOk, OnOk};
-ghost use Rattle.script_text.specs.Table.{with_name, features_text, port_flags_text, address_flags_text, flags_text};
+ghost use Rattle.std.specs.Prelude.{◌≡◌};
+ghost use Rattle.script_text.specs.NameLists.{features_text, port_flags_text, address_flags_text, flags_text};
+ghost use Rattle.script_text.specs.Pieces.{listed, piece_text};
+ghost use Rattle.script_text.specs.Vocabulary.{feature_name, port_flag_name, address_flag_name};
+ghost use Rattle.xio.specs.Printing.{Prints};
 
+use crate::piece::{Piece, print_line};
+use crate::vocabulary::{address_flag_name, feature_name, port_flag_name};
 use filter_rules::{RuleKind, features, flags};
-use std::alloc::Global;
-use xio::{Bytes, OutOfMemory};
+use xio::Printer;
 
-/// Appends a name where it is meant, with a comma in front of it where it isn't the first.
-#[tactic(auto, unfolding(crate::specs::Table::with_name))]
-fn push_name(names: &mut Bytes, is_meant: bool, name: &[u8]) -> Result<(), OutOfMemory>
-    ensures { OnOk result (names.new ≡ with_name names.old is_meant name.now) }
+fn feature(bits: u8, bit: u8) -> Piece<'static>
+    ensures { piece_text result ≡ listed bits bit (feature_name bit) }
 {
-    if !is_meant {
-        return Ok(());
-    }
-    if !names.as_slice().is_empty() {
-        names.append(b",")?;
-    }
-    names.append(name)
+    let name = feature_name(bit);
+    Piece::Listed { bits, bit, name }
 }
 
-/// The names of features, in the order of their bits.
-#[tactic(auto, unfolding(crate::specs::Table::features_text))]
-pub fn features_text(alloc: Global, bits: u8) -> Result<Bytes, OutOfMemory>
-    ensures { IfOk result (λ text. text ≡ features_text bits) }
+/// Prints the names of features, in the order of their bits.
+#[tactic(auto, unfolding(crate::specs::NameLists::features_text))]
+pub fn features_print<P: Printer>(printer: &mut P, bits: u8) -> Result<(), P::End>
+    ensures { Prints P.tells P.counts (P.state printer.old) (P.state printer.new) (features_text bits) result }
 {
-    let mut names = Bytes::new(alloc);
-    push_name(&mut names, bits & features::TCP != 0, b"tcp")?;
-    push_name(&mut names, bits & features::UDP != 0, b"udp")?;
-    push_name(&mut names, bits & features::IPV4 != 0, b"ipv4")?;
-    push_name(&mut names, bits & features::IPV6 != 0, b"ipv6")?;
-    push_name(&mut names, bits & features::ETHERNET != 0, b"ethernet")?;
-    Ok(names)
+    print_line(
+        printer,
+        &[
+            feature(bits, features::TCP),
+            feature(bits, features::UDP),
+            feature(bits, features::IPV4),
+            feature(bits, features::IPV6),
+            feature(bits, features::ETHERNET),
+        ],
+    )
 }
 
-#[tactic(auto, unfolding(crate::specs::Table::port_flags_text))]
-fn port_flags_text(alloc: Global, bits: u8) -> Result<Bytes, OutOfMemory>
-    ensures { IfOk result (λ text. text ≡ port_flags_text bits) }
+fn port_flag(bits: u8, bit: u8) -> Piece<'static>
+    ensures { piece_text result ≡ listed bits bit (port_flag_name bit) }
 {
-    let mut names = Bytes::new(alloc);
-    push_name(&mut names, bits & flags::SOURCE_TCP != 0, b"src-tcp")?;
-    push_name(&mut names, bits & flags::SOURCE_UDP != 0, b"src-udp")?;
-    push_name(&mut names, bits & flags::TARGET_TCP != 0, b"dst-tcp")?;
-    push_name(&mut names, bits & flags::TARGET_UDP != 0, b"dst-udp")?;
-    Ok(names)
+    let name = port_flag_name(bit);
+    Piece::Listed { bits, bit, name }
 }
 
-#[tactic(auto, unfolding(crate::specs::Table::address_flags_text))]
-fn address_flags_text(alloc: Global, bits: u8) -> Result<Bytes, OutOfMemory>
-    ensures { IfOk result (λ text. text ≡ address_flags_text bits) }
+fn address_flag(bits: u8, bit: u8) -> Piece<'static>
+    ensures { piece_text result ≡ listed bits bit (address_flag_name bit) }
 {
-    let mut names = Bytes::new(alloc);
-    push_name(&mut names, bits & flags::SOURCE != 0, b"src")?;
-    push_name(&mut names, bits & flags::TARGET != 0, b"dst")?;
-    Ok(names)
+    let name = address_flag_name(bit);
+    Piece::Listed { bits, bit, name }
 }
 
-/// The names of a row's flags, in the order of their bits.
-#[tactic(auto, unfolding(crate::specs::Table::flags_text))]
-pub fn flags_text(alloc: Global, kind: RuleKind, bits: u8) -> Result<Bytes, OutOfMemory>
-    ensures { IfOk result (λ text. text ≡ flags_text kind bits) }
+/// Prints the names of a row's flags, in the order of their bits.
+#[tactic(auto, unfolding(crate::specs::NameLists::flags_text))]
+pub fn flags_print<P: Printer>(printer: &mut P, kind: RuleKind, bits: u8) -> Result<(), P::End>
+    ensures { Prints P.tells P.counts (P.state printer.old) (P.state printer.new) (flags_text kind bits) result }
 {
     match kind {
-        RuleKind::Port => port_flags_text(alloc, bits),
-        RuleKind::Ip4 | RuleKind::Ip6 | RuleKind::Ether => address_flags_text(alloc, bits),
+        RuleKind::Port => print_line(
+            printer,
+            &[
+                port_flag(bits, flags::SOURCE_TCP),
+                port_flag(bits, flags::SOURCE_UDP),
+                port_flag(bits, flags::TARGET_TCP),
+                port_flag(bits, flags::TARGET_UDP),
+            ],
+        ),
+        RuleKind::Ip4 | RuleKind::Ip6 | RuleKind::Ether => print_line(
+            printer,
+            &[
+                address_flag(bits, flags::SOURCE),
+                address_flag(bits, flags::TARGET),
+            ],
+        ),
     }
 }

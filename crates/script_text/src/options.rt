@@ -2,9 +2,8 @@ ghost use Rattle.std.specs.Prelude.{◌≡◌};
 ghost use Rattle.script_text.specs.Options.{verb_of, is_either, load_option, unload_option, address_option, port_option, option_of, role_of, none_given, given_value, given_switch};
 
 use crate::rule::{BAD_CHOICE, BAD_FORM, Rule};
-use crate::word_lists::{
-    Directions, Protocols, directions_of, features_of, mode_of, policy_of, protocols_of,
-};
+use crate::vocabulary::{mode_of, policy_of};
+use crate::word_lists::{Directions, Protocols, directions_of, features_of, protocols_of};
 use crate::words::is_option;
 use filter_rules::Policy;
 use xdp_state::Mode;

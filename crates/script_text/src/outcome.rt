@@ -1,10 +1,11 @@
 ghost use Rattle.std.specs.Prelude.{◌≡◌, IfOk};
-ghost use Rattle.script_text.specs.Texts.{outcome_text, reason_text, end_text};
+ghost use Rattle.script_text.specs.Texts.{counted, outcome_text, reason_text, end_text};
+ghost use Rattle.xio.specs.Printing.{Prints};
 
-use crate::text::bytes_of;
+use crate::piece::{Piece, print_line};
 use std::alloc::Global;
 use xdp_state::Reason;
-use xio::{Bytes, OutOfMemory};
+use xio::{Bytes, OutOfMemory, Printer};
 
 /// What came of a line of the script.
 #[derive(Clone, Copy, Debug, PartialEq, Eq)]
@@ -21,41 +22,100 @@ pub enum Outcome {
     Barrier(u32),
 }
 
-fn reason_text(reason: Reason) -> &'static str
+fn reason_text(reason: Reason) -> &'static [u8]
     ensures { result.now ≡ reason_text reason }
 {
     match reason {
-        Reason::NoInterface => "no such interface",
-        Reason::FilterThere => "filter there",
-        Reason::FilterNotThere => "filter not there",
-        Reason::FeatureMissing => "feature missing",
-        Reason::RulesFull => "rules full",
-        Reason::NoSuchRule => "no such rule",
+        Reason::NoInterface => b"no such interface",
+        Reason::FilterThere => b"filter there",
+        Reason::FilterNotThere => b"filter not there",
+        Reason::FeatureMissing => b"feature missing",
+        Reason::RulesFull => b"rules full",
+        Reason::NoSuchRule => b"no such rule",
+    }
+}
+
+/// Prints a line that ends with a count.
+fn print_counted<P: Printer>(
+    printer: &mut P,
+    line: u32,
+    word: &[u8],
+    count: u32,
+) -> Result<(), P::End>
+    ensures { Prints P.tells P.counts (P.state printer.old) (P.state printer.new) (counted line word.now count) result }
+{
+    print_line(
+        printer,
+        &[
+            Piece::Number(u128::from(line)),
+            Piece::Text(word),
+            Piece::Number(u128::from(count)),
+            Piece::Text(b"\n"),
+        ],
+    )
+}
+
+/// Prints a line's outcome, without the lines of a table or of processors.
+#[tactic(auto, unfolding(crate::specs::Texts::outcome_text))]
+pub fn outcome_print<P: Printer>(
+    printer: &mut P,
+    line: u32,
+    outcome: &Outcome,
+) -> Result<(), P::End>
+    ensures { Prints P.tells P.counts (P.state printer.old) (P.state printer.new) (outcome_text line outcome.now) result }
+{
+    match outcome {
+        Outcome::Ok(number) => print_counted(printer, line, b" ok ", *number),
+        Outcome::Shown => print_line(
+            printer,
+            &[Piece::Number(u128::from(line)), Piece::Text(b" ok\n")],
+        ),
+        Outcome::Refused(reason) => {
+            let reason = Piece::Text(reason_text(*reason));
+            print_line(
+                printer,
+                &[
+                    Piece::Number(u128::from(line)),
+                    Piece::Text(b" refused "),
+                    reason,
+                    Piece::Text(b"\n"),
+                ],
+            )
+        }
+        Outcome::Handed { packets } => print_counted(printer, line, b" handed ", *packets),
+        Outcome::Barrier(count) => print_counted(printer, line, b" barrier ", *count),
     }
 }
 
 /// What is printed of a line's outcome, without the lines of a table or of processors.
-#[tactic(auto, unfolding(crate::specs::Texts::outcome_text))]
 pub fn outcome_text(alloc: Global, line: u32, outcome: &Outcome) -> Result<Bytes, OutOfMemory>
     ensures { IfOk result (λ text. text ≡ outcome_text line outcome.now) }
 {
-    let text = match outcome {
-        Outcome::Ok(number) => format!(in alloc; "{line} ok {number}\n")?,
-        Outcome::Shown => format!(in alloc; "{line} ok\n")?,
-        Outcome::Refused(reason) => {
-            let reason = reason_text(*reason);
-            format!(in alloc; "{line} refused {reason}\n")?
-        }
-        Outcome::Handed { packets } => format!(in alloc; "{line} handed {packets}\n")?,
-        Outcome::Barrier(count) => format!(in alloc; "{line} barrier {count}\n")?,
-    };
-    bytes_of(alloc, text.as_bytes())
+    let mut text = Bytes::new(alloc);
+    outcome_print(&mut text, line, outcome)?;
+    Ok(text)
+}
+
+/// Prints the script's end, after so many publications.
+#[tactic(auto, unfolding(crate::specs::Texts::end_text))]
+pub fn end_print<P: Printer>(printer: &mut P, count: u32) -> Result<(), P::End>
+    ensures { Prints P.tells P.counts (P.state printer.old) (P.state printer.new) (end_text count) result }
+{
+    print_line(
+        printer,
+        &[
+            Piece::Text(b"end "),
+            Piece::Number(u128::from(count)),
+            Piece::Text(b"\n"),
+        ],
+    )
 }
 
 /// What is printed at the script's end, after so many publications.
-#[tactic(auto, unfolding(crate::specs::Texts::end_text))]
 pub fn end_text(alloc: Global, count: u32) -> Result<Bytes, OutOfMemory>
     ensures { IfOk result (λ text. text ≡ end_text count) }
 {
-    bytes_of(alloc, format!(in alloc; "end {count}\n")?.as_bytes())
+    let mut text = Bytes::new(alloc);
+    end_print(&mut text, count)?;
+    Ok(text)
 }

@@ -124,35 +124,46 @@ lent {S = S} told sink buffer held waiting held' waiting' text before now flushe
     same_setting true f f' e s = rw (e refl, s) refl
     same_setting false f f' e s = rw s refl
 
+-- at `Ok` the error's type says nothing
+prints_ok : {S E F : Type 0} {told counted : Bool} {a b : PrinterState S} {t : List ℕ} → Prints {E = E} told counted a b t (Ok tt) → Prints {E = F} told counted a b t (Ok tt)
+prints_ok p = record {
+  printed = p.printed;
+  front = p.front;
+  lost = p.lost;
+  more = p.more;
+  cause = λ h. record { later = (p.cause h).later; failed = tt; same = (p.cause h).same };
+  setting = p.setting;
+}
+
 -- a front of a whole text was printed, and what is left of it is known
-pub record HasPrinted {S : Type 0} (E : Type 0) (told counted : Bool) (old new : PrinterState S) (whole left : List ℕ) : Type 0 where
+pub record HasPrinted {S : Type 0} (told counted : Bool) (old new : PrinterState S) (whole left : List ℕ) : Type 0 where
   pub front : List ℕ
-  pub prints : Prints {E = E} told counted old new front (Ok tt)
+  pub prints : Prints {E = Unit {0}} told counted old new front (Ok tt)
   pub joins : front ++ left ≡ whole
 
-pub printed_none : {S : Type 0} {E : Type 0} (told counted : Bool) (state : PrinterState S) (whole : List ℕ) → HasPrinted E told counted state state whole whole
+pub printed_none : {S : Type 0} (told counted : Bool) (state : PrinterState S) (whole : List ℕ) → HasPrinted told counted state state whole whole
 printed_none told counted state whole = record { front = []; prints = prints_none told counted state; joins = refl }
 
 -- one text more
-pub printed_more : {S E : Type 0} {told counted : Bool} {a b c : PrinterState S} {whole left : List ℕ} (text left' : List ℕ) → HasPrinted E told counted a b whole left
-    → left ≡ text ++ left' → Prints {E = E} told counted b c text (Ok tt) → HasPrinted E told counted a c whole left'
+pub printed_more : {S E : Type 0} {told counted : Bool} {a b c : PrinterState S} {whole left : List ℕ} (text left' : List ℕ) → HasPrinted told counted a b whole left
+    → left ≡ text ++ left' → Prints {E = E} told counted b c text (Ok tt) → HasPrinted told counted a c whole left'
 printed_more text left' p is more = record {
   front = p.front ++ text;
-  prints = prints_then (Ok tt) p.prints more;
+  prints = prints_then (Ok tt) p.prints (prints_ok more);
   joins = append_assoc p.front text left' ∙ (ap (λ xs. p.front ++ xs) (sym is) ∙ p.joins);
 }
 
 -- one that ended
 pub printed_stop : {S E F : Type 0} {told counted : Bool} {a b c : PrinterState S} {whole left : List ℕ} {e : E} (text left' : List ℕ) (result : Result Unit F) → IsErr result
-    → HasPrinted E told counted a b whole left → left ≡ text ++ left' → Prints told counted b c text (let r : Result Unit E = Err e in r) → Prints told counted a c whole result
+    → HasPrinted told counted a b whole left → left ≡ text ++ left' → Prints told counted b c text (let r : Result Unit E = Err e in r) → Prints told counted a c whole result
 printed_stop {told = told} {counted = counted} {a = a} {c = c} {e = e} text left' result is_err p is stop =
     subst (λ xs. Prints told counted a c xs result) (append_assoc p.front text left' ∙ (ap (λ xs. p.front ++ xs) (sym is) ∙ p.joins))
-    (prints_stop left' result is_err (prints_then (Err e) p.prints stop))
+    (prints_stop left' result is_err (prints_then (Err e) (prints_ok p.prints) stop))
 
 -- the whole text
-pub printed_all : {S E : Type 0} {told counted : Bool} {a b : PrinterState S} {whole left : List ℕ} → HasPrinted E told counted a b whole left → left ≡ [] → Prints {E = E} told counted a b whole (Ok tt)
+pub printed_all : {S E : Type 0} {told counted : Bool} {a b : PrinterState S} {whole left : List ℕ} → HasPrinted told counted a b whole left → left ≡ [] → Prints {E = E} told counted a b whole (Ok tt)
 printed_all {E = E} {told = told} {counted = counted} {a = a} {b = b} p none =
-    subst (λ xs. Prints {E = E} told counted a b xs (Ok tt)) (sym (append-nil p.front) ∙ (ap (λ xs. p.front ++ xs) (sym none) ∙ p.joins)) p.prints
+    subst (λ xs. Prints {E = E} told counted a b xs (Ok tt)) (sym (append-nil p.front) ∙ (ap (λ xs. p.front ++ xs) (sym none) ∙ p.joins)) (prints_ok p.prints)
 
 -- what a list of bytes holds
 pub printed_text : {S E : Type 0} {counted : Bool} {a b : PrinterState S} {t : List ℕ} → Prints {E = E} true counted a b t (Ok tt) → b.text ≡ a.text ++ t

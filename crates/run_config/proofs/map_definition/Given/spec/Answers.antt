@@ -1,9 +1,8 @@
-use Rattle.std.proofs.Common.{◌≡◌, ℕ, Bool, true, false, List, Option, ap, refl, sym, ◌∙◌, unwrap_or}
+use Rattle.std.proofs.Common.{◌≡◌, ℕ, Bool, true, false, List, Result, Ok, ap, refl, sym, ◌∙◌, unwrap_or}
 use Rattle.map_store.specs.declared.spec.MapSpec.{MapSpec}
-use Rattle.map_store.specs.Spec.{spec_rule}
 use Rattle.run_config.specs.declared.map_definition.Given.{Given}
 use Rattle.run_config.specs.Given.{given_by, is_contrary_given}
-use Rattle.run_config.specs.MapDefinition.{is_contrary, kept_or, kind_of, spec_of}
+use Rattle.run_config.specs.MapDefinition.{is_contrary, kind_of, spec_of}
 use Rattle.run_config.specs.Values.{Named}
 use Rattle.run_config.proofs.GivenLemmas.{is_contrary-given, spec_by, spec_of-contrary, spec_of-kind, spec_of-no_kind}
 use Rattle.run_config.proofs.map_definition.Given.spec.Goals as goal
@@ -26,20 +25,12 @@ returns-in_default-clause-spec c values h =
     let kind = kind_by c.args.self values c.unwrap_or.result h c.unwrap_or.ensures ∙ sym c.in_default.ensures in
     sym (spec_of-no_kind values fine kind)
 
-pub returns-in-Some-spec_rule-clause-spec : goal.returns-in-Some-spec_rule-clause-spec
-returns-in-Some-spec_rule-clause-spec c values h =
+pub returns-clause-spec : goal.returns-clause-spec
+returns-clause-spec c values h =
     let fine = contrary c.args.self values c.is_contrary.result h c.is_contrary.ensures ∙ c.if-is_contrary.false in
     let kind = kind_by c.args.self values c.unwrap_or.result h c.unwrap_or.ensures ∙ sym c.in-Some.ensures in
     let spec : MapSpec = record { kind = c.in-Some.kind; key_size = c.unwrap_or-2.result; value_size = c.unwrap_or-3.result; max_entries = c.unwrap_or-4.result; initial = c.new.result } in
     let same : spec_by c.args.self c.in-Some.kind ≡ spec = rw (c.unwrap_or-2.ensures, c.or.ensures, c.unwrap_or-3.ensures, c.or-2.ensures, c.unwrap_or-4.ensures, c.new.ensures) refl in
-    let here : spec_of values ≡ kept_or (spec_rule spec) spec = spec_of-kind values c.in-Some.kind fine kind ∙ ap (λ (one : MapSpec). kept_or (spec_rule one) one) (ap (λ (given : Given). spec_by given c.in-Some.kind) (sym h) ∙ same) in
-    sym (here ∙ ap (λ (found : Option ℕ). kept_or found spec) (sym c.in-Some-spec_rule.ensures))
-
-pub returns-in-None-clause-spec : goal.returns-in-None-clause-spec
-returns-in-None-clause-spec c values h =
-    let fine = contrary c.args.self values c.is_contrary.result h c.is_contrary.ensures ∙ c.if-is_contrary.false in
-    let kind = kind_by c.args.self values c.unwrap_or.result h c.unwrap_or.ensures ∙ sym c.in-Some.ensures in
-    let spec : MapSpec = record { kind = c.in-Some.kind; key_size = c.unwrap_or-2.result; value_size = c.unwrap_or-3.result; max_entries = c.unwrap_or-4.result; initial = c.new.result } in
-    let same : spec_by c.args.self c.in-Some.kind ≡ spec = rw (c.unwrap_or-2.ensures, c.or.ensures, c.unwrap_or-3.ensures, c.or-2.ensures, c.unwrap_or-4.ensures, c.new.ensures) refl in
-    let here : spec_of values ≡ kept_or (spec_rule spec) spec = spec_of-kind values c.in-Some.kind fine kind ∙ ap (λ (one : MapSpec). kept_or (spec_rule one) one) (ap (λ (given : Given). spec_by given c.in-Some.kind) (sym h) ∙ same) in
-    sym (here ∙ ap (λ (found : Option ℕ). kept_or found spec) (sym c.in-None.ensures))
+    let by_given : spec_by (given_by values) c.in-Some.kind ≡ spec = ap (λ (given : Given). spec_by given c.in-Some.kind) (sym h) ∙ same in
+    let made : MapSpec → Result MapSpec ℕ = λ one. Ok one in
+    sym (spec_of-kind values c.in-Some.kind fine kind ∙ ap made by_given)

@@ -1,0 +1,18 @@
+use Rattle.std.proofs.Common.{◌≡◌, ◌≤◌, ℕ, true, List, length, ap, subst, sym, ◌∙◌}
+use Rattle.elf_objects.specs.Names.{has_name, section_names}
+use Rattle.elf_objects.proofs.Soundness.{section_name_ends, section_name_within}
+use Rattle.elf_objects.proofs.object.Object.section_is.Goals as goal
+
+pub names_have-requires-clause-place : goal.names_have-requires-clause-place
+names_have-requires-clause-place c =
+    let file = c.args.self.now in
+    let table = c.self.invariant.has_section_names ∙ ap section_names c.self.view_is in
+    subst (λ (names : List ℕ). c.section.result.name ≤ length names) (sym table)
+    (section_name_within file c.args.section c.section.result c.section.ensures.unbroken c.section.ensures.known c.section.ensures.section)
+
+pub names_have-requires-clause-ends : goal.names_have-requires-clause-ends
+names_have-requires-clause-ends c =
+    let file = c.args.self.now in
+    let table = c.self.invariant.has_section_names ∙ ap section_names c.self.view_is in
+    subst (λ (names : List ℕ). has_name names c.section.result.name ≡ true) (sym table)
+    (section_name_ends file c.args.section c.section.result c.section.ensures.unbroken c.section.ensures.known c.section.ensures.section)

@@ -1,0 +1,77 @@
+-- The words of the script's and the texts' choices.
+use Rattle.std.specs.Prelude.{ℕ, ◌==◌, List, codes, Option, Some, None, if◌then◌else◌}
+use Rattle.std.specs.Str.{bytes_eq}
+use Rattle.filter_rules.specs.declared.policy.Policy.{Policy}
+use Rattle.filter_rules.specs.declared.policy.Policy.TheVariants.{Allow, Deny}
+use Rattle.xdp_state.specs.declared.attachment.Mode.{Mode}
+use Rattle.xdp_state.specs.declared.attachment.Mode.TheVariants.{Native, Skb}
+use Rattle.xio.specs.declared.action.Action.{Action}
+use Rattle.xio.specs.declared.action.Action.TheVariants.{Aborted, Drop, Pass, Tx, Redirect}
+
+abbrev pub action_name : Action → List ℕ
+action_name Aborted = codes "aborted"
+action_name Drop = codes "drop"
+action_name Pass = codes "pass"
+action_name Tx = codes "tx"
+action_name Redirect = codes "redirect"
+
+abbrev pub action_of : List ℕ → Option Action
+action_of word =
+    if bytes_eq word (action_name Aborted) then Some Aborted
+    else if bytes_eq word (action_name Drop) then Some Drop
+    else if bytes_eq word (action_name Pass) then Some Pass
+    else if bytes_eq word (action_name Tx) then Some Tx
+    else if bytes_eq word (action_name Redirect) then Some Redirect
+    else None
+
+abbrev pub policy_name : Policy → List ℕ
+policy_name Allow = codes "allow"
+policy_name Deny = codes "deny"
+
+abbrev pub policy_of : List ℕ → Option Policy
+policy_of word =
+    if bytes_eq word (policy_name Allow) then Some Allow
+    else if bytes_eq word (policy_name Deny) then Some Deny
+    else None
+
+abbrev pub mode_name : Mode → List ℕ
+mode_name Native = codes "native"
+mode_name Skb = codes "skb"
+
+-- `unspecified` is native too
+abbrev pub mode_of : List ℕ → Option Mode
+mode_of word =
+    if bytes_eq word (mode_name Native) then Some Native
+    else if bytes_eq word (mode_name Skb) then Some Skb
+    else if bytes_eq word (codes "unspecified") then Some Native
+    else None
+
+-- of an address: 1 is the source, 2 the target
+abbrev pub address_flag_name : ℕ → List ℕ
+address_flag_name bit = if bit == 1 then codes "src" else codes "dst"
+
+-- of a port: 1, 2, 4 or 8
+abbrev pub port_flag_name : ℕ → List ℕ
+port_flag_name bit =
+    if bit == 1 then codes "src-tcp"
+    else if bit == 2 then codes "src-udp"
+    else if bit == 4 then codes "dst-tcp"
+    else codes "dst-udp"
+
+-- by the feature's bit: 1, 2, 4, 8 or 16
+abbrev pub feature_name : ℕ → List ℕ
+feature_name bit =
+    if bit == 1 then codes "tcp"
+    else if bit == 2 then codes "udp"
+    else if bit == 4 then codes "ipv4"
+    else if bit == 8 then codes "ipv6"
+    else codes "ethernet"
+
+abbrev pub feature_of : List ℕ → Option ℕ
+feature_of word =
+    if bytes_eq word (feature_name 1) then Some 1
+    else if bytes_eq word (feature_name 2) then Some 2
+    else if bytes_eq word (feature_name 4) then Some 4
+    else if bytes_eq word (feature_name 8) then Some 8
+    else if bytes_eq word (feature_name 16) then Some 16
+    else None

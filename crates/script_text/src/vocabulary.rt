@@ -1,0 +1,149 @@
+//! The words of choices, in one place for what reads them and what prints them.
+
+ghost use Rattle.std.specs.Prelude.{◌≡◌, Some};
+ghost use Rattle.script_text.specs.Vocabulary.{action_name, action_of, policy_name, policy_of, mode_name, mode_of, feature_name, feature_of, address_flag_name, port_flag_name};
+
+use filter_rules::{Policy, features, flags};
+use xdp_state::Mode;
+use xio::Action;
+
+/// The word of an action.
+pub fn action_name(action: Action) -> &'static [u8]
+    ensures value { result.now ≡ action_name action }
+    ensures reads_back { action_of result.now ≡ Some action }
+{
+    match action {
+        Action::Aborted => b"aborted",
+        Action::Drop => b"drop",
+        Action::Pass => b"pass",
+        Action::Tx => b"tx",
+        Action::Redirect => b"redirect",
+    }
+}
+
+/// The action of a word.
+pub fn action_of(word: &[u8]) -> Option<Action>
+    ensures { result ≡ action_of word.now }
+{
+    if word == action_name(Action::Aborted) {
+        Some(Action::Aborted)
+    } else if word == action_name(Action::Drop) {
+        Some(Action::Drop)
+    } else if word == action_name(Action::Pass) {
+        Some(Action::Pass)
+    } else if word == action_name(Action::Tx) {
+        Some(Action::Tx)
+    } else if word == action_name(Action::Redirect) {
+        Some(Action::Redirect)
+    } else {
+        None
+    }
+}
+
+/// The word of a policy.
+pub fn policy_name(policy: Policy) -> &'static [u8]
+    ensures value { result.now ≡ policy_name policy }
+    ensures reads_back { policy_of result.now ≡ Some policy }
+{
+    match policy {
+        Policy::Allow => b"allow",
+        Policy::Deny => b"deny",
+    }
+}
+
+/// The policy of a word.
+pub fn policy_of(word: &[u8]) -> Option<Policy>
+    ensures { result ≡ policy_of word.now }
+{
+    if word == policy_name(Policy::Allow) {
+        Some(Policy::Allow)
+    } else if word == policy_name(Policy::Deny) {
+        Some(Policy::Deny)
+    } else {
+        None
+    }
+}
+
+/// The word of a mode.
+pub fn mode_name(mode: Mode) -> &'static [u8]
+    ensures value { result.now ≡ mode_name mode }
+    ensures reads_back { mode_of result.now ≡ Some mode }
+{
+    match mode {
+        Mode::Native => b"native",
+        Mode::Skb => b"skb",
+    }
+}
+
+/// The mode of a word; `unspecified` is native.
+pub fn mode_of(word: &[u8]) -> Option<Mode>
+    ensures { result ≡ mode_of word.now }
+{
+    if word == mode_name(Mode::Native) {
+        Some(Mode::Native)
+    } else if word == mode_name(Mode::Skb) {
+        Some(Mode::Skb)
+    } else if word == b"unspecified".as_slice() {
+        Some(Mode::Native)
+    } else {
+        None
+    }
+}
+
+/// The word of a feature's bit; it is `ethernet` for all but the four lower bits.
+pub fn feature_name(bit: u8) -> &'static [u8]
+    ensures { result.now ≡ feature_name bit }
+{
+    if bit == features::TCP {
+        b"tcp"
+    } else if bit == features::UDP {
+        b"udp"
+    } else if bit == features::IPV4 {
+        b"ipv4"
+    } else if bit == features::IPV6 {
+        b"ipv6"
+    } else {
+        b"ethernet"
+    }
+}
+
+/// The bit of a feature's word.
+pub fn feature_of(word: &[u8]) -> Option<u8>
+    ensures { result ≡ feature_of word.now }
+{
+    if word == feature_name(features::TCP) {
+        Some(features::TCP)
+    } else if word == feature_name(features::UDP) {
+        Some(features::UDP)
+    } else if word == feature_name(features::IPV4) {
+        Some(features::IPV4)
+    } else if word == feature_name(features::IPV6) {
+        Some(features::IPV6)
+    } else if word == feature_name(features::ETHERNET) {
+        Some(features::ETHERNET)
+    } else {
+        None
+    }
+}
+
+/// The word of an address flag's bit; it is `dst` for all but the source.
+pub fn address_flag_name(bit: u8) -> &'static [u8]
+    ensures { result.now ≡ address_flag_name bit }
+{
+    if bit == flags::SOURCE { b"src" } else { b"dst" }
+}
+
+/// The word of a port flag's bit; it is `dst-udp` for all but the three lower bits.
+pub fn port_flag_name(bit: u8) -> &'static [u8]
+    ensures { result.now ≡ port_flag_name bit }
+{
+    if bit == flags::SOURCE_TCP {
+        b"src-tcp"
+    } else if bit == flags::SOURCE_UDP {
+        b"src-udp"
+    } else if bit == flags::TARGET_TCP {
+        b"dst-tcp"
+    } else {
+        b"dst-udp"
+    }
+}
