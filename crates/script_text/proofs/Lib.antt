@@ -7,6 +7,7 @@ pub mod LineLemmas
 pub mod NumberLemmas
 pub mod PartLemmas
 pub mod PieceLemmas
+pub mod PlaceLemmas
 pub mod ReadBack
 pub mod TableLemmas
 pub mod WordLemmas

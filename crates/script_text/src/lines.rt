@@ -1,11 +1,13 @@
 ghost use Rattle.std.specs.Prelude.{◌≡◌, ℕ, ◌<◌, ◌==◌, nat_lt, [], ◌∷◌, length, position, IfSome, MatchOption};
 ghost use Rattle.std.specs.Str.Lines.{lines, strip_carriage_return};
 
+use memchr::memchr;
+
 /// The place of the first line feed.
 fn line_feed(bytes: &[u8]) -> Option<usize>
     ensures { result ≡ position (λ b. b == 10) bytes.now }
 {
-    bytes.iter().position(|b| *b == b'\n')
+    memchr(b'\n', bytes)
 }
 
 /// A line that ended with a line feed, without the carriage return before it.

@@ -2,6 +2,8 @@ ghost use Rattle.std.specs.Prelude.{◌≡◌, ◌==◌, ◌<◌, not, [], ◌�
 ghost use Rattle.std.specs.List.{list_all};
 ghost use Rattle.script_text.specs.Words.{is_blank, is_comment, is_option, is_printable, words_of};
 
+use memchr::memchr2;
+
 fn is_blank(b: u8) -> bool
     ensures { result ≡ is_blank b }
 {
@@ -17,7 +19,7 @@ fn word_start(line: &[u8]) -> Option<usize>
 fn word_end(line: &[u8]) -> Option<usize>
     ensures { result ≡ position is_blank line.now }
 {
-    line.iter().position(|b| is_blank(*b))
+    memchr2(b' ', b'\t', line)
 }
 
 #[tactic(auto, using(crate::proofs::WordLemmas::words_of_blanks))]

@@ -29,21 +29,21 @@ impl PrintBuffer {
         })
     }
 
-    pub fn as_slice(&self) -> &[u8]
+    pub(crate) fn as_slice(&self) -> &[u8]
         ensures { result.now ≡ self.now }
     {
         self.room.bytes()
     }
 
     /// Puts a piece behind the text and says that it fitted.
-    pub fn put(&mut self, piece: &[u8]) -> bool
+    pub(crate) fn put(&mut self, piece: &[u8]) -> bool
         ensures put { OnTrue result (self.new ≡ self.old ++ piece.now) }
         ensures unchanged { OnFalse result (self.new ≡ self.old) }
     {
         self.room.put(piece)
     }
 
-    pub fn clear(&mut self)
+    pub(crate) fn clear(&mut self)
         ensures { self.new ≡ [] }
     {
         self.room.clear();

@@ -1,11 +1,26 @@
 use crate::{Outcome, TraceRow, end_text, outcome_text, processor_line, rules_text, trace_line};
 use filter_rules::{Policy, RuleKey};
+use std::alloc::Global;
 use std::test::Fail;
 use xdp_state::{Change, Interface, InterfaceList, Kind, Mode, Reason, State, Tally, Visit};
-use xio::{Action, Bytes};
+use xio::{Action, Bytes, OutOfMemory};
+
+fn is_outcome(alloc: Global, outcome: &Outcome, wanted: &str) -> bool {
+    match outcome_text(alloc, 7, outcome) {
+        Ok(text) => text.as_slice() == wanted.as_bytes(),
+        Err(OutOfMemory) => false,
+    }
+}
+
+fn is_end(alloc: Global, count: u32, wanted: &str) -> bool {
+    match end_text(alloc, count) {
+        Ok(text) => text.as_slice() == wanted.as_bytes(),
+        Err(OutOfMemory) => false,
+    }
+}
 
 #[test]
-fn outcomes(rt: HostRuntime) -> Result<(), Fail> {
+fn outcomes(rt: HostRuntime) {
     let outcomes = [
         (Outcome::Ok(1), "7 ok 1\n"),
         (Outcome::Shown, "7 ok\n"),
@@ -37,28 +52,45 @@ fn outcomes(rt: HostRuntime) -> Result<(), Fail> {
         ),
     ];
     for (outcome, wanted) in outcomes {
-        let text = outcome_text(rt.alloc(), 7, &outcome)?;
-        assert!(rt; text.as_slice() == wanted.as_bytes(), "{wanted}");
+        assert!(rt; is_outcome(rt.alloc(), &outcome, wanted), "{wanted}");
     }
-    let end = end_text(rt.alloc(), 2)?;
-    assert!(rt; end.as_slice() == b"end 2\n".as_slice());
-    Ok(())
+    assert!(rt; is_end(rt.alloc(), 2, "end 2\n"));
+}
+
+/// The line of the first processor, which dropped a packet and passed another, each of 14 bytes.
+fn first_processor(alloc: Global) -> Result<Bytes, OutOfMemory> {
+    let mut tally = Tally::new(alloc);
+    tally.add(&[], Action::Drop, 14)?;
+    tally.add(&[], Action::Pass, 14)?;
+    processor_line(alloc, 0, b"eth0", 0, &tally)
 }
 
 #[test]
 fn processor(rt: HostRuntime) -> Result<(), Fail> {
-    let mut tally = Tally::new(rt.alloc());
-    tally.add(&[], Action::Drop, 14)?;
-    tally.add(&[], Action::Pass, 14)?;
-    let line = processor_line(rt.alloc(), 0, b"eth0".as_slice(), 0, &tally)?;
     let wanted = b"  cpu 0 eth0/0 packets 2 bytes 28 aborted 0 drop 1 pass 1 tx 0 redirect 0\n";
-    assert!(rt; line.as_slice() == wanted.as_slice());
+    assert!(rt; first_processor(rt.alloc())?.as_slice() == wanted.as_slice());
     Ok(())
 }
 
-#[test]
-fn trace(rt: HostRuntime) -> Result<(), Fail> {
+/// Whether this is the line of a frame that the first processor carried.
+fn is_traced(alloc: Global, place: u32, count: u32, verdict: Action, wanted: &str) -> bool {
     let frame = [2, 0, 0, 0, 0, 1, 2, 0, 0, 0, 0, 2, 0x88, 0xB5];
+    let row = TraceRow {
+        processor: 0,
+        place,
+        count,
+        verdict,
+        target: 0,
+        frame: &frame,
+    };
+    match trace_line(alloc, &row) {
+        Ok(line) => line.as_slice() == wanted.as_bytes(),
+        Err(OutOfMemory) => false,
+    }
+}
+
+#[test]
+fn trace(rt: HostRuntime) {
     let rows = [
         (
             0,
@@ -80,18 +112,11 @@ fn trace(rt: HostRuntime) -> Result<(), Fail> {
         ),
     ];
     for (place, count, verdict, wanted) in rows {
-        let row = TraceRow {
-            processor: 0,
-            place,
-            count,
-            verdict,
-            target: 0,
-            frame: &frame,
-        };
-        let line = trace_line(rt.alloc(), &row)?;
-        assert!(rt; line.as_slice() == wanted.as_bytes(), "{wanted}");
+        assert!(rt;
+            is_traced(rt.alloc(), place, count, verdict, wanted),
+            "{wanted}"
+        );
     }
-    Ok(())
 }
 
 const STATUS: &str = "  eth1 deny udp,ipv6
@@ -107,18 +132,19 @@ const STATUS: &str = "  eth1 deny udp,ipv6
   redirect 0 0
 ";
 
-#[test]
-fn status(rt: HostRuntime) -> Result<(), Fail> {
-    let mut interfaces = InterfaceList::new(rt.alloc());
-    for name in [b"eth0", b"eth1"] {
-        let mut bytes = Bytes::new(rt.alloc());
-        bytes.append(name)?;
-        interfaces.push(Interface {
-            name: bytes,
-            queues: 1,
-        })?;
+fn interfaces(alloc: Global) -> Result<InterfaceList, OutOfMemory> {
+    let mut interfaces = InterfaceList::new(alloc);
+    for word in [b"eth0", b"eth1"] {
+        let mut name = Bytes::new(alloc);
+        name.append(word)?;
+        interfaces.push(Interface { name, queues: 1 })?;
     }
-    let mut state = State::new(rt.alloc())?;
+    Ok(interfaces)
+}
+
+/// A filter on eth1, and five rules.
+fn state(alloc: Global) -> Result<State, OutOfMemory> {
+    let mut state = State::new(alloc)?;
     state.absorb(&Change::Attach {
         interface: 1,
         kind: Kind::Filter {
@@ -140,12 +166,18 @@ fn status(rt: HostRuntime) -> Result<(), Fail> {
     for (key, flags) in rules {
         state.absorb(&Change::SetRule { key, flags });
     }
-    let mut tally = Tally::new(rt.alloc());
-    for (rule, action, handed) in [
+    Ok(state)
+}
+
+/// One packet dropped by a rule and two passed by another.
+fn tally(alloc: Global) -> Result<Tally, OutOfMemory> {
+    let mut tally = Tally::new(alloc);
+    let packets = [
         (2, Action::Drop, 54),
         (4, Action::Pass, 60),
         (4, Action::Pass, 60),
-    ] {
+    ];
+    for (rule, action, handed) in packets {
         let visit = Visit {
             number: 1,
             action,
@@ -154,6 +186,14 @@ fn status(rt: HostRuntime) -> Result<(), Fail> {
         };
         tally.add(&[visit], action, handed)?;
     }
+    Ok(tally)
+}
+
+#[test]
+fn status(rt: HostRuntime) -> Result<(), Fail> {
+    let interfaces = interfaces(rt.alloc())?;
+    let state = state(rt.alloc())?;
+    let tally = tally(rt.alloc())?;
     let text = rules_text(rt.alloc(), &state, &interfaces, &tally)?;
     assert!(rt; text.as_slice() == STATUS.as_bytes());
     Ok(())
