@@ -1,0 +1,34 @@
+use Rattle.std.proofs.Common.{[], Some, ap, rules}
+use Rattle.xio.specs.Lent.{SinkSetting}
+use Rattle.xdp_tool.specs.Headline.{Touches}
+use Rattle.xdp_tool.proofs.OneTrace.{told-of, touches_made, traced_made}
+use Rattle.xdp_tool.proofs.Ordering.{none-whole}
+use Rattle.xdp_tool.specs.Plan.{plan}
+use Rattle.xdp_tool.specs.Queues.{queues_of}
+use Rattle.xdp_tool.specs.Trace.{trace_text}
+use Rattle.std.proofs.Common.{take}
+use Rattle.xdp_tool.proofs.traced.perform_into.Goals as goal
+
+pub returns-clause-touched : goal.returns-clause-touched
+returns-clause-touched g c = λ tells.
+    let closed : Touches (g.F.Files.told c.args.files.now) (g.F.Files.told c.close.new.self) [] (Some c.args.name.now) =
+    touches_made (g.F.Files.told c.args.files.now) (g.F.Files.told c.make_file.new.self) (g.F.Files.told c.perform-result.new.trace.files.now) (g.F.Files.told c.close.new.self) c.args.name.now c.in-Ok.file c.perform-result.new.trace.file (c.in-Ok.ensures.told_after tells)
+    (ap (λ (s : SinkSetting). s.file) c.perform-result.ensures.same_trace)
+    (told-of _ _ _ tells (ap (λ (s : SinkSetting). s.told) c.perform-result.ensures.same_trace)) (c.close.ensures.same_told tells)
+    in search (rules, closed)
+
+pub returns-in-Err-Failed-clause-ordered : goal.returns-in-Err-Failed-clause-ordered
+returns-in-Err-Failed-clause-ordered g c = λ tells told.
+    (0, none-whole c.args.script.now.interfaces (plan c.args.script.now) _, search (rules, c.in-Err-Failed.ensures.told_after tells))
+
+pub returns-in-Err-OutOfMemory-clause-ordered : goal.returns-in-Err-OutOfMemory-clause-ordered
+returns-in-Err-OutOfMemory-clause-ordered g c = λ tells told.
+    (0, none-whole c.args.script.now.interfaces (plan c.args.script.now) _, search (rules, c.in-Err-OutOfMemory.ensures.told_after tells))
+
+pub returns-clause-ordered : goal.returns-clause-ordered
+returns-clause-ordered g c = λ tells told.
+    let ordered = c.perform-result.ensures.ordered told tells in
+    let traced = traced_made (g.F.Files.told c.args.files.now) (g.F.Files.told c.make_file.new.self) (g.F.Files.told c.perform-result.new.trace.files.now) (g.F.Files.told c.close.new.self) (trace_text (queues_of c.args.script.now.interfaces) (plan c.args.script.now) (take ordered.0 c.perform-result.new.choices)) c.args.name.now c.in-Ok.file c.perform-result.new.trace.file (c.in-Ok.ensures.told_after tells)
+    (ap (λ (s : SinkSetting). s.file) c.perform-result.ensures.same_trace)
+    (told-of _ _ _ tells (ap (λ (s : SinkSetting). s.told) c.perform-result.ensures.same_trace)) (c.close.ensures.same_told tells) ordered.2
+    in (ordered.0, ordered.1, search (rules, traced))
