@@ -1,7 +1,8 @@
-ghost use Rattle.std.specs.Prelude.{◌≡◌, []};
+ghost use Rattle.std.specs.Prelude.{◌≡◌, ◌≤◌, [], length};
 
 use crate::{Cause, Code, Env, Frame, RunEnd, Scratch, run};
 use bpf_insn::decode;
+use byteorder::{ByteOrder, LittleEndian};
 use lists::{Bytes, OutOfMemory};
 use map_store::{MapKind, MapSpec, Store};
 use std::alloc::Global;
@@ -85,6 +86,18 @@ fn new_machine(alloc: Global) -> Result<Machine, OutOfMemory> {
     })
 }
 
+/// Puts a packet into the frame.
+fn put(machine: &mut Machine, packet: &[u8])
+    requires least { 14 ≤ length packet.now }
+    requires most { length packet.now ≤ 15872 }
+{
+    machine.frame.fill(packet);
+}
+
+fn packet(machine: &Machine) -> &[u8] {
+    machine.frame.bytes()
+}
+
 /// Runs slots of 8 bytes, the first byte the highest.
 fn run_slots(alloc: Global, machine: &mut Machine, slots: &[u64]) -> Result<RunEnd, Fail> {
     let mut bytes = Vec::new(alloc);
@@ -117,11 +130,9 @@ fn stop(cause: Cause, used: u32) -> RunEnd {
 
 /// The slot of these fields; the source is the high half of `registers`.
 fn slot(opcode: u8, registers: u8, offset: i16, imm: i32) -> u64 {
-    let offset = offset.to_le_bytes();
-    let imm = imm.to_le_bytes();
-    u64::from_be_bytes([
-        opcode, registers, offset[0], offset[1], imm[0], imm[1], imm[2], imm[3],
-    ])
+    let offset = offset.cast_unsigned().swap_bytes();
+    let imm = imm.cast_unsigned().swap_bytes();
+    u64::from(opcode) << 56 | u64::from(registers) << 48 | u64::from(offset) << 32 | u64::from(imm)
 }
 
 /// Runs these slots between one that keeps the context's address in r7 and those that put r0 at the packet's front and
@@ -140,13 +151,13 @@ fn answer_of(alloc: Global, machine: &mut Machine, body: &[u64]) -> Result<Optio
     if end.action != Action::Pass {
         return Ok(None);
     }
-    Ok(first_number(machine.frame.bytes()))
+    Ok(first_number(packet(machine)))
 }
 
 /// The 8 bytes at the front as a number.
 fn first_number(bytes: &[u8]) -> Option<i64> {
-    let [a, b, c, d, e, f, g, h, ..] = bytes else {
+    if bytes.len() < 8 {
         return None;
-    };
-    Some(i64::from_le_bytes([*a, *b, *c, *d, *e, *f, *g, *h]))
+    }
+    Some(LittleEndian::read_i64(bytes))
 }

@@ -1,4 +1,4 @@
-use super::{LONG, Machine, answer_of, new_machine, run_slots, slot, stop};
+use super::{LONG, Machine, answer_of, new_machine, packet, put, run_slots, slot, stop};
 use crate::Cause;
 use std::alloc::Global;
 use std::test::Fail;
@@ -84,7 +84,7 @@ const ANSWERS: [(&[u64], i64); 14] = [
 fn answers(rt: HostRuntime) -> Result<(), Fail> {
     let mut machine = new_machine(rt.alloc())?;
     for (body, expected) in &ANSWERS {
-        machine.frame.fill(&LONG);
+        put(&mut machine, &LONG);
         let answer = answer_of(rt.alloc(), &mut machine, body)?;
         assert_eq!(rt; answer, Some(*expected));
     }
@@ -160,7 +160,7 @@ const MAP_ANSWERS: [(i32, i32, i32, i32, i64); 30] = [
 fn maps(rt: HostRuntime) -> Result<(), Fail> {
     let mut machine = new_machine(rt.alloc())?;
     for (helper, reference, key, flags, expected) in &MAP_ANSWERS {
-        machine.frame.fill(&LONG);
+        put(&mut machine, &LONG);
         let body = call_for_map(*helper, *reference, *key, -4, -16, *flags);
         let answer = answer_of(rt.alloc(), &mut machine, &body)?;
         assert_eq!(rt; answer, Some(*expected));
@@ -168,26 +168,27 @@ fn maps(rt: HostRuntime) -> Result<(), Fail> {
     Ok(())
 }
 
+/// Helper, reference, and the places of key and value.
+const MAP_FAULTS: [(i32, i32, i32, i32); 9] = [
+    // references to no map
+    (LOOKUP, 0x6fff_ffff, -4, -16),
+    (UPDATE, 0x7000_0005, -4, -16),
+    (DELETE, 0, -4, -16),
+    // a key across the frame's end, and none at all
+    (LOOKUP, 0x7000_0000, -3, -16),
+    (UPDATE, 0x7000_0000, -3, -16),
+    (DELETE, 0x7000_0000, -3, -16),
+    (DELETE, 0x7000_0000, 4096, -16),
+    // values of 12 and of 8 bytes
+    (UPDATE, 0x7000_0000, -4, -11),
+    (UPDATE, 0x7000_0002, -4, -7),
+];
+
 #[test]
 fn map_faults(rt: HostRuntime) -> Result<(), Fail> {
     let mut machine = new_machine(rt.alloc())?;
-    // helper, reference, places of key and value
-    let rows = [
-        // references to no map
-        (LOOKUP, 0x6fff_ffff, -4, -16),
-        (UPDATE, 0x7000_0005, -4, -16),
-        (DELETE, 0, -4, -16),
-        // a key across the frame's end, and none at all
-        (LOOKUP, 0x7000_0000, -3, -16),
-        (UPDATE, 0x7000_0000, -3, -16),
-        (DELETE, 0x7000_0000, -3, -16),
-        (DELETE, 0x7000_0000, 4096, -16),
-        // values of 12 and of 8 bytes
-        (UPDATE, 0x7000_0000, -4, -11),
-        (UPDATE, 0x7000_0002, -4, -7),
-    ];
-    for (helper, reference, key_place, value_place) in rows {
-        machine.frame.fill(&LONG);
+    for &(helper, reference, key_place, value_place) in &MAP_FAULTS {
+        put(&mut machine, &LONG);
         let body = call_for_map(helper, reference, 0, key_place, value_place, 0);
         let end = run_slots(rt.alloc(), &mut machine, &body)?;
         assert_eq!(rt; end, stop(Cause::Fault, 8));
@@ -195,18 +196,9 @@ fn map_faults(rt: HostRuntime) -> Result<(), Fail> {
     Ok(())
 }
 
-/// What a helper answers that moves an end of the packet, and how long the packet then is. The opcode puts the delta into
-/// r2.
-fn adjusted(
-    alloc: Global,
-    machine: &mut Machine,
-    opcode: u8,
-    helper: i32,
-    delta: i32,
-) -> Result<(Option<i64>, usize), Fail> {
-    let body = [slot(opcode, 0x02, 0, delta), slot(0x85, 0x00, 0, helper)];
-    let answer = answer_of(alloc, machine, &body)?;
-    Ok((answer, machine.frame.bytes().len()))
+/// Calls a helper that moves an end of the packet. The opcode puts the delta into r2.
+fn call_for_end(opcode: u8, helper: i32, delta: i32) -> [u64; 2] {
+    [slot(opcode, 0x02, 0, delta), slot(0x85, 0x00, 0, helper)]
 }
 
 const ADJUST_HEAD: i32 = 44;
@@ -218,44 +210,57 @@ const MOV64: u8 = 0xb7;
 /// The high half is 0 then.
 const MOV32: u8 = 0xb4;
 
+/// Opcode, helper and delta, and then the answer and the packet's length.
+const MOVES: [(u8, i32, i32, i64, usize); 12] = [
+    (MOV64, ADJUST_HEAD, -256, 0, 316),
+    (MOV32, ADJUST_HEAD, -256, 0, 316),
+    (MOV64, ADJUST_HEAD, -257, -22, 60),
+    (MOV64, ADJUST_HEAD, 0, 0, 60),
+    (MOV64, ADJUST_HEAD, 46, 0, 14),
+    (MOV64, ADJUST_HEAD, 47, -22, 60),
+    (MOV64, ADJUST_TAIL, -46, 0, 14),
+    (MOV32, ADJUST_TAIL, -46, 0, 14),
+    (MOV64, ADJUST_TAIL, -47, -22, 60),
+    (MOV64, ADJUST_TAIL, 256, 0, 316),
+    (MOV64, ADJUST_TAIL, 257, -22, 60),
+    (MOV64, ADJUST_TAIL, i32::MIN, -22, 60),
+];
+
 #[test]
 fn moves_ends(rt: HostRuntime) -> Result<(), Fail> {
     let mut machine = new_machine(rt.alloc())?;
-    // opcode, helper, delta, answer, length
-    let rows = [
-        (MOV64, ADJUST_HEAD, -256, 0, 316),
-        (MOV32, ADJUST_HEAD, -256, 0, 316),
-        (MOV64, ADJUST_HEAD, -257, -22, 60),
-        (MOV64, ADJUST_HEAD, 0, 0, 60),
-        (MOV64, ADJUST_HEAD, 46, 0, 14),
-        (MOV64, ADJUST_HEAD, 47, -22, 60),
-        (MOV64, ADJUST_TAIL, -46, 0, 14),
-        (MOV32, ADJUST_TAIL, -46, 0, 14),
-        (MOV64, ADJUST_TAIL, -47, -22, 60),
-        (MOV64, ADJUST_TAIL, 256, 0, 316),
-        (MOV64, ADJUST_TAIL, 257, -22, 60),
-        (MOV64, ADJUST_TAIL, i32::MIN, -22, 60),
-    ];
-    for (opcode, helper, delta, answer, length) in rows {
-        machine.frame.fill(&LONG);
-        let moved = adjusted(rt.alloc(), &mut machine, opcode, helper, delta)?;
-        assert_eq!(rt; moved, (Some(answer), length));
+    for &(opcode, helper, delta, answer, length) in &MOVES {
+        put(&mut machine, &LONG);
+        let body = call_for_end(opcode, helper, delta);
+        let found = answer_of(rt.alloc(), &mut machine, &body)?;
+        assert_eq!(rt; found, Some(answer));
+        assert_eq!(rt; packet(&machine).len(), length);
     }
     Ok(())
+}
+
+/// Whether the bytes at 8 up to 20 are as in `LONG`, and all others 0.
+fn is_cleared(packet: &[u8]) -> bool {
+    for (place, byte) in packet.iter().enumerate() {
+        let expected = if 8 <= place && place < 20 { 0xff } else { 0 };
+        if *byte != expected {
+            return false;
+        }
+    }
+    true
 }
 
 #[test]
 fn clears_what_comes_to_the_packet(rt: HostRuntime) -> Result<(), Fail> {
     let mut machine = new_machine(rt.alloc())?;
-    machine.frame.fill(&LONG);
-    let shorter = adjusted(rt.alloc(), &mut machine, MOV64, ADJUST_TAIL, -40)?;
-    assert_eq!(rt; shorter, (Some(0), 20));
-    let longer = adjusted(rt.alloc(), &mut machine, MOV64, ADJUST_TAIL, 296)?;
-    assert_eq!(rt; longer, (Some(0), 316));
-    // the answer, then what was kept
-    for (place, byte) in machine.frame.bytes().iter().enumerate() {
-        let expected = if (8..20).contains(&place) { 0xff } else { 0 };
-        assert_eq!(rt; *byte, expected);
+    put(&mut machine, &LONG);
+    for (delta, length) in [(-40, 20), (296, 316)] {
+        let body = call_for_end(MOV64, ADJUST_TAIL, delta);
+        let answer = answer_of(rt.alloc(), &mut machine, &body)?;
+        assert_eq!(rt; answer, Some(0));
+        assert_eq!(rt; packet(&machine).len(), length);
     }
+    // the answer stands in front
+    assert!(rt; is_cleared(packet(&machine)));
     Ok(())
 }

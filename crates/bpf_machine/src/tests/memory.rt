@@ -1,4 +1,4 @@
-use super::{EXIT, LONG, Machine, new_machine, run_slots, slot};
+use super::{EXIT, LONG, Machine, new_machine, packet, put, run_slots, slot};
 use crate::{Cause, RunEnd};
 use bpf_insn::Size;
 use std::alloc::Global;
@@ -8,28 +8,37 @@ use xio::Action;
 /// These numbers in order, the lowest byte of each first.
 fn packet_of(numbers: &[u64; 3]) -> [u8; 24] {
     let mut packet = [0; 24];
-    packet[..8].copy_from_slice(&numbers[0].to_le_bytes());
-    packet[8..16].copy_from_slice(&numbers[1].to_le_bytes());
-    packet[16..].copy_from_slice(&numbers[2].to_le_bytes());
+    for place in 0..24 {
+        packet[place] = (numbers[place / 8] >> (8 * (place % 8)) & 0xff) as u8;
+    }
     packet
 }
 
+/// Puts the packet's three numbers into the stack, r2 and r0.
+const TAKE: [u64; 5] = [
+    0x6116_0000_0000_0000,
+    0x7963_0000_0000_0000,
+    0x7b3a_f8ff_0000_0000,
+    0x7962_0800_0000_0000,
+    0x7960_1000_0000_0000,
+];
+
+/// Puts them back, and passes.
+const GIVE: [u64; 6] = [
+    0x79a3_f8ff_0000_0000,
+    0x7b36_0000_0000_0000,
+    0x7b26_0800_0000_0000,
+    0x7b06_1000_0000_0000,
+    0xb700_0000_0200_0000,
+    EXIT,
+];
+
 /// Runs an atomic operation of r2 on a number in the stack. The packet holds that number, r2 and r0, before and afterwards.
 fn run_atomic(alloc: Global, machine: &mut Machine, opcode: u8, imm: i32) -> Result<RunEnd, Fail> {
-    let slots = [
-        0x6116_0000_0000_0000,
-        0x7963_0000_0000_0000,
-        0x7b3a_f8ff_0000_0000,
-        0x7962_0800_0000_0000,
-        0x7960_1000_0000_0000,
-        slot(opcode, 0x2a, -8, imm),
-        0x79a3_f8ff_0000_0000,
-        0x7b36_0000_0000_0000,
-        0x7b26_0800_0000_0000,
-        0x7b06_1000_0000_0000,
-        0xb700_0000_0200_0000,
-        EXIT,
-    ];
+    let mut slots = Vec::new(alloc);
+    slots.extend_from_slice(&TAKE)?;
+    slots.push(slot(opcode, 0x2a, -8, imm))?;
+    slots.extend_from_slice(&GIVE)?;
     run_slots(alloc, machine, &slots)
 }
 
@@ -82,10 +91,10 @@ const ATOMICS: [(u8, i32, u64, [u64; 3]); 24] = [
 fn atomic_operations(rt: HostRuntime) -> Result<(), Fail> {
     let mut machine = new_machine(rt.alloc())?;
     for (opcode, imm, r0, after) in &ATOMICS {
-        machine.frame.fill(&packet_of(&[MEMORY, SOURCE, *r0]));
+        put(&mut machine, &packet_of(&[MEMORY, SOURCE, *r0]));
         let end = run_atomic(rt.alloc(), &mut machine, *opcode, *imm)?;
         assert_eq!(rt; end.action, Action::Pass);
-        assert_eq!(rt; machine.frame.bytes(), packet_of(after).as_slice());
+        assert_eq!(rt; packet(&machine), packet_of(after).as_slice());
     }
     Ok(())
 }
@@ -103,7 +112,7 @@ fn can_access(
         0xb700_0000_0200_0000,
         EXIT,
     ];
-    machine.frame.fill(&LONG);
+    put(machine, &LONG);
     let end = run_slots(alloc, machine, &slots)?;
     Ok(end.cause == Cause::Exit)
 }

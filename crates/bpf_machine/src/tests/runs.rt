@@ -1,4 +1,4 @@
-use super::{EXIT, SHORT, new_machine, run_slots, stop};
+use super::{EXIT, SHORT, new_machine, packet, put, run_slots, stop};
 use crate::{Cause, RunEnd};
 use std::test::Fail;
 use xio::Action;
@@ -96,7 +96,7 @@ const EXITS: [(&[u64], Action, u32, u32); 9] = [
 fn exits(rt: HostRuntime) -> Result<(), Fail> {
     let mut machine = new_machine(rt.alloc())?;
     for (slots, action, target, used) in &EXITS {
-        machine.frame.fill(&SHORT);
+        put(&mut machine, &SHORT);
         let end = run_slots(rt.alloc(), &mut machine, slots)?;
         let expected = RunEnd {
             action: *action,
@@ -105,7 +105,7 @@ fn exits(rt: HostRuntime) -> Result<(), Fail> {
             used: *used,
         };
         assert_eq!(rt; end, expected);
-        assert_eq!(rt; machine.frame.bytes(), SHORT.as_slice());
+        assert_eq!(rt; packet(&machine), SHORT.as_slice());
     }
     Ok(())
 }
@@ -184,10 +184,10 @@ const STOPS: [(&[u64], Cause, u32); 14] = [
 fn stops(rt: HostRuntime) -> Result<(), Fail> {
     let mut machine = new_machine(rt.alloc())?;
     for (slots, cause, used) in &STOPS {
-        machine.frame.fill(&SHORT);
+        put(&mut machine, &SHORT);
         let end = run_slots(rt.alloc(), &mut machine, slots)?;
         assert_eq!(rt; end, stop(*cause, *used));
-        assert_eq!(rt; machine.frame.bytes(), SHORT.as_slice());
+        assert_eq!(rt; packet(&machine), SHORT.as_slice());
     }
     Ok(())
 }
@@ -205,10 +205,10 @@ const PAST_THE_END: [u64; 6] = [
 #[test]
 fn keeps_what_a_faulting_run_wrote(rt: HostRuntime) -> Result<(), Fail> {
     let mut machine = new_machine(rt.alloc())?;
-    machine.frame.fill(&SHORT);
+    put(&mut machine, &SHORT);
     let end = run_slots(rt.alloc(), &mut machine, &PAST_THE_END)?;
     assert_eq!(rt; end, stop(Cause::Fault, 4));
     let left = [0xff, 0, 0, 0, 0, 1, 2, 0, 0, 0, 0, 2, 0x88, 0xb5];
-    assert_eq!(rt; machine.frame.bytes(), left.as_slice());
+    assert_eq!(rt; packet(&machine), left.as_slice());
     Ok(())
 }
