@@ -2,7 +2,7 @@
 
 use super::*;
 use btf_types::{kind, read_btf};
-use lists::Bytes;
+use lists::{Bytes, List};
 use map_store::MapKind;
 use std::alloc::Global;
 use std::test::Fail;
@@ -21,6 +21,8 @@ enum Form {
 use Form::{Count, Plain, Pointer};
 
 type Members<'a> = &'a [(&'a [u8], Form)];
+
+type Config = Result<RunConfig, BadConfig>;
 
 /// Types and names as they are made. Type 1 is a number of four bytes.
 #[derive(Drop)]
@@ -141,25 +143,42 @@ fn sample(alloc: Global) -> Result<Bytes, Fail> {
     builder.bytes()
 }
 
+/// How many types there are in bytes.
+fn count_in(alloc: Global, bytes: &[u8]) -> Result<u32, Fail> {
+    Ok(read_btf(alloc, bytes)?.len())
+}
+
+/// What bytes of types say of a function.
+fn config_in(alloc: Global, bytes: &[u8], function: &[u8]) -> Result<Config, Fail> {
+    let types = read_btf(alloc, bytes)?;
+    Ok(config_of(&types, function))
+}
+
+/// The maps of bytes of types, or why there are none.
+fn maps_in(alloc: Global, bytes: &[u8]) -> Result<Result<List<NamedMap>, MapsEnd>, Fail> {
+    let types = read_btf(alloc, bytes)?;
+    Ok(maps_of(alloc, &types))
+}
+
 #[test]
-fn a_function_and_a_map(rt: HostRuntime) -> Result<(), Fail> {
+fn a_function(rt: HostRuntime) -> Result<(), Fail> {
     let bytes = sample(rt.alloc())?;
     assert_eq!(rt; bytes.as_slice().len(), 395);
-    let types = read_btf(rt.alloc(), bytes.as_slice())?;
-    assert_eq!(rt; types.len(), 14);
-    let given = RunConfig {
-        priority: 10,
-        mask: 4,
+    assert_eq!(rt; count_in(rt.alloc(), bytes.as_slice())?, 14);
+    for (function, priority) in [(b"a", 10), (b"b", 50)] {
+        let config = config_in(rt.alloc(), bytes.as_slice(), function)?;
+        assert_eq!(rt; config, Ok(RunConfig { priority, mask: 4 }));
+    }
+    Ok(())
+}
+
+#[test]
+fn a_map(rt: HostRuntime) -> Result<(), Fail> {
+    let bytes = sample(rt.alloc())?;
+    let maps = maps_in(rt.alloc(), bytes.as_slice())?.map_err(|_| "no maps")?;
+    let [hits] = maps.as_slice() else {
+        return Err("not one map".into());
     };
-    assert_eq!(rt; config_of(&types, b"a"), Ok(given));
-    let default = RunConfig {
-        priority: 50,
-        mask: 4,
-    };
-    assert_eq!(rt; config_of(&types, b"b"), Ok(default));
-    let maps = maps_of(rt.alloc(), &types)?;
-    assert_eq!(rt; maps.len(), 1);
-    let hits = maps.at(0);
     assert!(rt; hits.name.as_slice() == b"hits".as_slice());
     assert_eq!(rt; hits.spec.kind, MapKind::PercpuArray);
     assert_eq!(rt; hits.spec.key_size, 4);
@@ -169,81 +188,90 @@ fn a_function_and_a_map(rt: HostRuntime) -> Result<(), Fail> {
 }
 
 /// What the types say of a function `f` whose configuration has these members.
-fn config_by(alloc: Global, members: Members) -> Result<Result<RunConfig, BadConfig>, Fail> {
+fn config_by(alloc: Global, members: Members) -> Result<Config, Fail> {
     let mut builder = Builder::new(alloc)?;
     let structure = builder.structure(members)?;
-    let variable = builder.variable(b"_f", structure)?;
+    config_from(builder, structure)
+}
+
+/// What the types say of a function `f` whose configuration is of the type of this number.
+fn config_from(mut builder: Builder, number: u32) -> Result<Config, Fail> {
+    let variable = builder.variable(b"_f", number)?;
     builder.section(b".xdp_run_config", &[variable])?;
     let bytes = builder.bytes()?;
-    let types = read_btf(alloc, bytes.as_slice())?;
-    Ok(config_of(&types, b"f"))
+    config_in(builder.alloc, bytes.as_slice(), b"f")
 }
+
+/// Members, and priority and mask of the configuration.
+const SETTINGS: [(Members, u32, u8); 4] = [
+    (&[], 50, 4),
+    (&[(b"XDP_DROP", Count(1))], 50, 6),
+    (
+        &[
+            (b"XDP_ABORTED", Count(7)),
+            (b"XDP_TX", Count(0)),
+            (b"XDP_REDIRECT", Count(1)),
+        ],
+        50,
+        21,
+    ),
+    (
+        &[
+            (b"priority", Count(10)),
+            (b"XDP_PASS", Count(0)),
+            (b"XDP_TX", Count(1)),
+            (b"priority", Count(20)),
+            (b"XDP_TX", Count(0)),
+        ],
+        20,
+        0,
+    ),
+];
 
 #[test]
 fn settings_in_order(rt: HostRuntime) -> Result<(), Fail> {
-    let given: [(Members, u32, u8); 4] = [
-        (&[], 50, 4),
-        (&[(b"XDP_DROP", Count(1))], 50, 6),
-        (
-            &[
-                (b"XDP_ABORTED", Count(7)),
-                (b"XDP_TX", Count(0)),
-                (b"XDP_REDIRECT", Count(1)),
-            ],
-            50,
-            21,
-        ),
-        (
-            &[
-                (b"priority", Count(10)),
-                (b"XDP_PASS", Count(0)),
-                (b"XDP_TX", Count(1)),
-                (b"priority", Count(20)),
-                (b"XDP_TX", Count(0)),
-            ],
-            20,
-            0,
-        ),
-    ];
-    for (members, priority, mask) in given {
-        assert_eq!(rt;
-            config_by(rt.alloc(), members)?,
-            Ok(RunConfig { priority, mask })
-        );
+    for &(members, priority, mask) in &SETTINGS {
+        let config = config_by(rt.alloc(), members)?;
+        assert_eq!(rt; config, Ok(RunConfig { priority, mask }));
     }
     Ok(())
 }
+
+/// Members, and the place of the first that sets nothing.
+const NO_SETTINGS: [(Members, u32); 4] = [
+    (&[(b"priority", Plain(1))], 0),
+    (&[(b"priority", Count(10)), (b"mask", Count(1))], 1),
+    (
+        &[
+            (b"priority", Count(10)),
+            (b"XDP_PASS", Pointer(1)),
+            (b"", Count(1)),
+        ],
+        1,
+    ),
+    (&[(b"XDP_DROP", Count(1)), (b"XDP_DRO", Count(1))], 1),
+];
 
 #[test]
 fn members_that_set_nothing(rt: HostRuntime) -> Result<(), Fail> {
-    let given: [(Members, u32); 4] = [
-        (&[(b"priority", Plain(1))], 0),
-        (&[(b"priority", Count(10)), (b"mask", Count(1))], 1),
-        (
-            &[
-                (b"priority", Count(10)),
-                (b"XDP_PASS", Pointer(1)),
-                (b"", Count(1)),
-            ],
-            1,
-        ),
-        (&[(b"XDP_DROP", Count(1)), (b"XDP_DRO", Count(1))], 1),
-    ];
-    for (members, member) in given {
-        assert_eq!(rt; config_by(rt.alloc(), members)?, Err(BadConfig { member }));
+    for &(members, member) in &NO_SETTINGS {
+        let config = config_by(rt.alloc(), members)?;
+        assert_eq!(rt; config, Err(BadConfig { member }));
     }
-    let mut builder = Builder::new(rt.alloc())?;
-    let variable = builder.variable(b"_f", 1)?;
-    builder.section(b".xdp_run_config", &[variable])?;
-    let bytes = builder.bytes()?;
-    let types = read_btf(rt.alloc(), bytes.as_slice())?;
-    assert_eq!(rt; config_of(&types, b"f"), Err(BadConfig { member: 0 }));
     Ok(())
 }
 
 #[test]
-fn modifiers(rt: HostRuntime) -> Result<(), Fail> {
-    let mut builder = Builder::new(rt.alloc())?;
+fn a_configuration_that_is_no_structure(rt: HostRuntime) -> Result<(), Fail> {
+    let config = config_from(Builder::new(rt.alloc())?, 1)?;
+    assert_eq!(rt; config, Err(BadConfig { member: 0 }));
+    Ok(())
+}
+
+/// A function `f` with a configuration behind modifiers, a function `g` whose configuration is a modifier of itself, and a
+/// map behind modifiers.
+fn modified(alloc: Global) -> Result<Bytes, Fail> {
+    let mut builder = Builder::new(alloc)?;
     let structure = builder.structure(&[(b"priority", Count(7))])?;
     let named = builder.add(0, kind::TYPEDEF, 0, structure)?;
     let constant = builder.add(0, kind::CONST, 0, named)?;
@@ -254,95 +282,115 @@ fn modifiers(rt: HostRuntime) -> Result<(), Fail> {
     let map = builder.variable(b"map", constant)?;
     builder.section(b".xdp_run_config", &[given, circle])?;
     builder.section(b".maps", &[map])?;
-    let bytes = builder.bytes()?;
-    let types = read_btf(rt.alloc(), bytes.as_slice())?;
-    let config = RunConfig {
+    builder.bytes()
+}
+
+const NO_STRUCTURE: MapsEnd = MapsEnd::BadMap { index: 0, rule: 1 };
+
+#[test]
+fn modifiers(rt: HostRuntime) -> Result<(), Fail> {
+    let bytes = modified(rt.alloc())?;
+    let given = RunConfig {
         priority: 7,
         mask: 4,
     };
-    assert_eq!(rt; config_of(&types, b"f"), Ok(config));
-    assert_eq!(rt; config_of(&types, b"g"), Err(BadConfig { member: 0 }));
-    let no_structure = MapsEnd::BadMap { index: 0, rule: 1 };
-    assert_eq!(rt; maps_of(rt.alloc(), &types).err(), Some(no_structure));
+    for (function, config) in [(b"f", Ok(given)), (b"g", Err(BadConfig { member: 0 }))] {
+        let found = config_in(rt.alloc(), bytes.as_slice(), function)?;
+        assert_eq!(rt; found, config);
+    }
+    let maps = maps_in(rt.alloc(), bytes.as_slice())?;
+    assert_eq!(rt; maps.err(), Some(NO_STRUCTURE));
     Ok(())
 }
 
-/// Why so many variables of one structure with these members aren't maps; None where they are.
-fn maps_end(alloc: Global, members: Members, copies: u32) -> Result<Option<MapsEnd>, Fail> {
-    let mut builder = Builder::new(alloc)?;
-    let structure = builder.structure(members)?;
-    let mut variables = Vec::new(alloc);
+/// Why so many variables of the type of this number aren't maps; None where they are.
+fn maps_from(mut builder: Builder, number: u32, copies: u32) -> Result<Option<MapsEnd>, Fail> {
+    let mut variables = Vec::new(builder.alloc);
     for _ in 0..copies {
-        variables.push(builder.variable(b"map", structure)?)?;
+        variables.push(builder.variable(b"map", number)?)?;
     }
     builder.section(b".maps", variables.as_slice())?;
     let bytes = builder.bytes()?;
-    let types = read_btf(alloc, bytes.as_slice())?;
-    Ok(maps_of(alloc, &types).err())
+    Ok(maps_in(builder.alloc, bytes.as_slice())?.err())
 }
 
-/// The members of an array map with values of four bytes and so many entries, and one member more.
-fn array_with<'a>(entries: u32, more: (&'a [u8], Form)) -> [(&'a [u8], Form); 5] {
-    [
+/// Why so many variables of one structure aren't maps, which is an array with values of four bytes and so many entries,
+/// and has one member more; None where they are.
+fn arrays_from(
+    alloc: Global,
+    entries: u32,
+    more: (&[u8], Form),
+    copies: u32,
+) -> Result<Option<MapsEnd>, Fail> {
+    let mut builder = Builder::new(alloc)?;
+    let structure = builder.structure(&[
         (b"type", Count(2)),
         (b"key", Pointer(1)),
         (b"value", Pointer(1)),
         (b"max_entries", Count(entries)),
         more,
-    ]
+    ])?;
+    maps_from(builder, structure, copies)
 }
+
+/// Entries, the member behind the others, and the rule that is broken.
+const DEFINITIONS: [(u32, &[u8], Form, Option<u8>); 17] = [
+    (1, b"pinning", Count(9), None),
+    (1, b"map_flags", Count(1), None),
+    (1, b"key_size", Count(4), None),
+    (1, b"type", Count(6), None),
+    (1, b"value", Pointer(3), None),
+    (1, b"name", Count(1), Some(2)),
+    (1, b"type", Pointer(1), Some(3)),
+    (1, b"key", Plain(1), Some(3)),
+    (1, b"pinning", Plain(1), Some(3)),
+    (1, b"value", Pointer(0), Some(4)),
+    (1, b"key_size", Count(8), Some(4)),
+    (1, b"map_flags", Count(2), Some(4)),
+    (1, b"type", Count(3), Some(5)),
+    (1, b"key", Pointer(3), Some(6)),
+    (16_385, b"value", Pointer(6), Some(7)),
+    (1, b"max_entries", Count(0), Some(8)),
+    (1, b"max_entries", Count(1_048_577), Some(8)),
+];
 
 #[test]
 fn rules_of_definitions(rt: HostRuntime) -> Result<(), Fail> {
-    // entries, the member behind the others, and the rule that is broken
-    let given: [(u32, &[u8], Form, Option<u8>); 17] = [
-        (1, b"pinning", Count(9), None),
-        (1, b"map_flags", Count(1), None),
-        (1, b"key_size", Count(4), None),
-        (1, b"type", Count(6), None),
-        (1, b"value", Pointer(3), None),
-        (1, b"name", Count(1), Some(2)),
-        (1, b"type", Pointer(1), Some(3)),
-        (1, b"key", Plain(1), Some(3)),
-        (1, b"pinning", Plain(1), Some(3)),
-        (1, b"value", Pointer(0), Some(4)),
-        (1, b"key_size", Count(8), Some(4)),
-        (1, b"map_flags", Count(2), Some(4)),
-        (1, b"type", Count(3), Some(5)),
-        (1, b"key", Pointer(3), Some(6)),
-        (16_385, b"value", Pointer(6), Some(7)),
-        (1, b"max_entries", Count(0), Some(8)),
-        (1, b"max_entries", Count(1_048_577), Some(8)),
-    ];
-    for (entries, name, form, rule) in given {
-        let members = array_with(entries, (name, form));
-        let end = rule.map(|rule| MapsEnd::BadMap { index: 0, rule });
-        assert_eq!(rt; maps_end(rt.alloc(), &members, 1)?, end);
+    for &(entries, name, form, rule) in &DEFINITIONS {
+        let end = arrays_from(rt.alloc(), entries, (name, form), 1)?;
+        assert_eq!(rt; end, rule.map(|rule| MapsEnd::BadMap { index: 0, rule }));
     }
     Ok(())
 }
 
 #[test]
-fn rules_of_variables_and_sums(rt: HostRuntime) -> Result<(), Fail> {
-    let mut builder = Builder::new(rt.alloc())?;
-    let variable = builder.variable(b"map", 1)?;
-    builder.section(b".maps", &[variable])?;
-    let bytes = builder.bytes()?;
-    let types = read_btf(rt.alloc(), bytes.as_slice())?;
-    let no_structure = MapsEnd::BadMap { index: 0, rule: 1 };
-    assert_eq!(rt; maps_of(rt.alloc(), &types).err(), Some(no_structure));
-    // entries of 12 bytes, how many maps, the one that breaks a rule
-    let given: [(u32, u32, Option<(u32, u8)>); 5] = [
-        (349_525, 1, None),
-        (349_526, 1, Some((0, 9))),
-        (174_763, 2, Some((1, 9))),
-        (1, 32, None),
-        (1, 33, Some((32, 10))),
-    ];
-    for (entries, copies, bad) in given {
-        let members = array_with(entries, (b"pinning", Count(1)));
-        let end = bad.map(|(index, rule)| MapsEnd::BadMap { index, rule });
-        assert_eq!(rt; maps_end(rt.alloc(), &members, copies)?, end);
+fn a_map_that_is_no_structure(rt: HostRuntime) -> Result<(), Fail> {
+    let end = maps_from(Builder::new(rt.alloc())?, 1, 1)?;
+    assert_eq!(rt; end, Some(NO_STRUCTURE));
+    Ok(())
+}
+
+/// Entries of 12 bytes, how many maps, and why they aren't maps.
+const SUMS: [(u32, u32, Option<MapsEnd>); 5] = [
+    (349_525, 1, None),
+    (349_526, 1, Some(MapsEnd::BadMap { index: 0, rule: 9 })),
+    (174_763, 2, Some(MapsEnd::BadMap { index: 1, rule: 9 })),
+    (1, 32, None),
+    (
+        1,
+        33,
+        Some(MapsEnd::BadMap {
+            index: 32,
+            rule: 10,
+        }),
+    ),
+];
+
+#[test]
+fn rules_of_sums(rt: HostRuntime) -> Result<(), Fail> {
+    for &(entries, copies, end) in &SUMS {
+        let found = arrays_from(rt.alloc(), entries, (b"pinning", Count(1)), copies)?;
+        assert_eq!(rt; found, end);
     }
     Ok(())
 }
