@@ -11,6 +11,7 @@ pub enum Kind {
     Filter { policy: Policy, features: u8 },
 }
 
+/// What stands where no member does.
 impl Default for Kind {
     fn default() -> Self {
         Kind::Program(0)

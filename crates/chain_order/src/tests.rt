@@ -49,6 +49,7 @@ fn members_stand_by_priority_then_rank_then_number(rt: HostRuntime) {
         assert_eq!(rt; numbers(&chain), after);
     }
     assert_eq!(rt; chain.len(), 6);
+    assert_eq!(rt; chain.at(1).number, 2);
     assert_eq!(rt; chain.remove(2), Ok(program(50, 0, 2)));
     assert_eq!(rt; numbers(&chain), 43156);
     assert_eq!(rt; chain.remove(2), Err(NoSuchId));

@@ -22,5 +22,8 @@ fn items_stand_in_the_order_of_their_pushes(rt: HostRuntime) -> Result<(), Fail>
     assert_eq!(rt; list.as_slice(), [7, 9, 8].as_slice());
     list.push(6)?;
     assert_eq!(rt; *list.at(0), 7);
+    assert_eq!(rt; list.len(), 4);
+    list.set(2, 5);
+    assert_eq!(rt; list.as_slice(), [7, 9, 5, 6].as_slice());
     Ok(())
 }

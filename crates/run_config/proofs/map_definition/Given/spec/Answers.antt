@@ -1,8 +1,8 @@
-use Rattle.std.proofs.Common.{◌≡◌, ℕ, Bool, true, false, List, Result, Ok, ap, refl, sym, ◌∙◌, unwrap_or}
+use Rattle.std.proofs.Common.{◌≡◌, ℕ, Bool, List, Result, Ok, ap, refl, sym, ◌∙◌, unwrap_or}
 use Rattle.map_store.specs.declared.spec.MapSpec.{MapSpec}
 use Rattle.run_config.specs.declared.map_definition.Given.{Given}
 use Rattle.run_config.specs.Given.{given_by, is_contrary_given}
-use Rattle.run_config.specs.MapDefinition.{is_contrary, kind_of, spec_of}
+use Rattle.run_config.specs.MapDefinition.{is_contrary, kind_of}
 use Rattle.run_config.specs.Values.{Named}
 use Rattle.run_config.proofs.GivenLemmas.{is_contrary-given, spec_by, spec_of-contrary, spec_of-kind, spec_of-no_kind}
 use Rattle.run_config.proofs.map_definition.Given.spec.Goals as goal
