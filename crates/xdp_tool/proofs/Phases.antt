@@ -1,66 +1,101 @@
--- What phases that have ended printed and left in the trace, as one phase more ends.
+-- What phases that have ended carried, printed and left in the trace, as one phase more ends.
 use Rattle.std.proofs.Common.{◌≡◌, ℕ, ◌+◌, Bool, List, [], ◌∷◌, ◌++◌, length, append-nil, append_assoc, arith, refl, ap, sym, true, false, ◌∙◌, ◌||◌}
 use Rattle.std.proofs.lemmas.List.Folds.{list_any-append}
 use Rattle.std.specs.List.{list_any}
-use Rattle.xdp_state.specs.Sums.{Counted}
+use Rattle.xdp_state.specs.Sums.{Past, past_with}
+use Rattle.xdp_state.specs.Traversals.{Standing, carried_in, standings_in, traversals}
+use Rattle.xdp_state.specs.declared.carried.Carried.{Carried}
 use Rattle.xdp_state.specs.declared.interface.Interface.{Interface}
-use Rattle.xdp_tool.specs.Plan.{Phase, has_refusal, is_refused}
-use Rattle.xdp_tool.specs.Queues.{Queue, queues_of}
-use Rattle.xdp_tool.specs.Texts.{counted_with, phase_text, texts_from}
+use Rattle.xdp_tool.specs.Plan.{Phase, has_refusal, is_refused, works_of}
+use Rattle.xdp_tool.specs.Texts.{phase_text, texts_from}
 use Rattle.xdp_tool.specs.Trace.{phase_trace, traces_from}
 
--- the sums after some phases
-abbrev pub counted_after : List Interface → List (List Counted) → List Phase → List (List (List ℕ)) → List (List Counted)
-counted_after interfaces before (phase ∷ phases) (counts ∷ choices) =
-    counted_after interfaces (counted_with 0 (queues_of interfaces) phase counts before) phases choices
-counted_after interfaces before _ _ = before
+-- where the processors stand after some phases
+abbrev pub standings_after : List Standing → List Phase → List (List (List ℕ)) → List Standing
+standings_after standings (phase ∷ phases) (counts ∷ choices) =
+    standings_after (standings_in phase.work.published standings phase.work.hand_ins counts) phases choices
+standings_after standings _ _ = standings
 
-pub counted_after-more : (interfaces : List Interface) (before : List (List Counted)) (done : List Phase) (phase : Phase) (choices : List (List (List ℕ))) (counts : List (List ℕ)) → length choices ≡ length done → counted_after interfaces before (done ++ phase ∷ []) (choices ++ counts ∷ []) ≡ counted_with 0 (queues_of interfaces) phase counts (counted_after interfaces before done choices)
-counted_after-more interfaces before [] phase [] counts same = refl
-counted_after-more interfaces before [] phase (c ∷ choices) counts same = absurd (omega (arith, same))
-counted_after-more interfaces before (d ∷ done) phase [] counts same = absurd (omega (arith, same))
-counted_after-more interfaces before (d ∷ done) phase (c ∷ choices) counts same =
-    counted_after-more interfaces (counted_with 0 (queues_of interfaces) d c before) done phase choices counts (omega (arith, same))
+pub standings_after-more : (ss : List Standing) (done : List Phase) (phase : Phase) (choices : List (List (List ℕ))) (counts : List (List ℕ)) → length choices ≡ length done → standings_after ss (done ++ phase ∷ []) (choices ++ counts ∷ []) ≡ standings_in phase.work.published (standings_after ss done choices) phase.work.hand_ins counts
+standings_after-more ss [] phase [] counts same = refl
+standings_after-more ss [] phase (c ∷ choices) counts same = absurd (omega (arith, same))
+standings_after-more ss (d ∷ done) phase [] counts same = absurd (omega (arith, same))
+standings_after-more ss (d ∷ done) phase (c ∷ choices) counts same =
+    standings_after-more (standings_in d.work.published ss d.work.hand_ins c) done phase choices counts (omega (arith, same))
 
-pub texts-more : (interfaces : List Interface) (before : List (List Counted)) (done : List Phase) (phase : Phase) (rest : List Phase) (choices : List (List (List ℕ))) (counts : List (List ℕ)) → length choices ≡ length done → texts_from interfaces before (done ++ phase ∷ rest) (choices ++ counts ∷ []) ≡ texts_from interfaces before done choices ++ phase_text interfaces phase (counted_after interfaces before done choices) (counted_with 0 (queues_of interfaces) phase counts (counted_after interfaces before done choices))
-texts-more interfaces before [] phase [] [] counts same = append-nil _
-texts-more interfaces before [] phase (r ∷ rest) [] counts same = append-nil _
-texts-more interfaces before [] phase rest (c ∷ choices) counts same = absurd (omega (arith, same))
-texts-more interfaces before (d ∷ done) phase rest [] counts same = absurd (omega (arith, same))
-texts-more interfaces before (d ∷ done) phase rest (c ∷ choices) counts same =
-    ap (λ more. phase_text interfaces d before (counted_with 0 (queues_of interfaces) d c before) ++ more)
-    (texts-more interfaces (counted_with 0 (queues_of interfaces) d c before) done phase rest choices counts (omega (arith, same)))
-    ∙ sym (append_assoc (phase_text interfaces d before (counted_with 0 (queues_of interfaces) d c before)) _ _)
+pub traversals-more : (ss : List Standing) (done : List Phase) (phase : Phase) (rest : List Phase) (choices : List (List (List ℕ))) (counts : List (List ℕ)) → length choices ≡ length done → traversals ss (works_of (done ++ phase ∷ rest)) (choices ++ counts ∷ []) ≡ traversals ss (works_of done) choices ++ carried_in phase.work.published (standings_after ss done choices) phase.work.hand_ins counts ∷ []
+traversals-more ss [] phase [] [] counts same = refl
+traversals-more ss [] phase (r ∷ rest) [] counts same = refl
+traversals-more ss [] phase rest (c ∷ choices) counts same = absurd (omega (arith, same))
+traversals-more ss (d ∷ done) phase rest [] counts same = absurd (omega (arith, same))
+traversals-more ss (d ∷ done) phase rest (c ∷ choices) counts same =
+    ap (λ more. carried_in d.work.published ss d.work.hand_ins c ∷ more)
+    (traversals-more (standings_in d.work.published ss d.work.hand_ins c) done phase rest choices counts (omega (arith, same)))
 
--- phases that aren't covered print nothing
-pub texts-front : (interfaces : List Interface) (before : List (List Counted)) (done rest : List Phase) (choices : List (List (List ℕ))) → length choices ≡ length done → texts_from interfaces before (done ++ rest) choices ≡ texts_from interfaces before done choices
-texts-front interfaces before [] [] [] same = refl
-texts-front interfaces before [] (r ∷ rest) [] same = refl
-texts-front interfaces before [] rest (c ∷ choices) same = absurd (omega (arith, same))
-texts-front interfaces before (d ∷ done) rest [] same = absurd (omega (arith, same))
-texts-front interfaces before (d ∷ done) rest (c ∷ choices) same =
-    ap (λ more. phase_text interfaces d before (counted_with 0 (queues_of interfaces) d c before) ++ more)
-    (texts-front interfaces (counted_with 0 (queues_of interfaces) d c before) done rest choices (omega (arith, same)))
+-- phases that aren't covered carry nothing
+pub traversals-front : (ss : List Standing) (done rest : List Phase) (choices : List (List (List ℕ))) → length choices ≡ length done → traversals ss (works_of (done ++ rest)) choices ≡ traversals ss (works_of done) choices
+traversals-front ss [] [] [] same = refl
+traversals-front ss [] (r ∷ rest) [] same = refl
+traversals-front ss [] rest (c ∷ choices) same = absurd (omega (arith, same))
+traversals-front ss (d ∷ done) rest [] same = absurd (omega (arith, same))
+traversals-front ss (d ∷ done) rest (c ∷ choices) same =
+    ap (λ more. carried_in d.work.published ss d.work.hand_ins c ∷ more)
+    (traversals-front (standings_in d.work.published ss d.work.hand_ins c) done rest choices (omega (arith, same)))
 
-pub traces-more : (queues : List Queue) (number : ℕ) (done : List Phase) (phase : Phase) (rest : List Phase) (choices : List (List (List ℕ))) (counts : List (List ℕ)) → length choices ≡ length done → traces_from queues number (done ++ phase ∷ rest) (choices ++ counts ∷ []) ≡ traces_from queues number done choices ++ phase_trace queues (number + length choices) phase counts
-traces-more queues number [] phase [] [] counts same = rw (append-nil) (let none : number + 0 ≡ number = omega arith in rw none refl)
-traces-more queues number [] phase (r ∷ rest) [] counts same = rw (append-nil) (let none : number + 0 ≡ number = omega arith in rw none refl)
-traces-more queues number [] phase rest (c ∷ choices) counts same = absurd (omega (arith, same))
-traces-more queues number (d ∷ done) phase rest [] counts same = absurd (omega (arith, same))
-traces-more queues number (d ∷ done) phase rest (c ∷ choices) counts same =
-    let place : number + 1 + length choices ≡ number + length (c ∷ choices) = omega arith in
-    ap (λ more. phase_trace queues number d c ++ more)
-    (traces-more queues (number + 1) done phase rest choices counts (omega (arith, same))
-    ∙ ap (λ n. traces_from queues (number + 1) done choices ++ phase_trace queues n phase counts) place)
-    ∙ sym (append_assoc (phase_trace queues number d c) _ _)
+pub length-traversals : (ss : List Standing) (done : List Phase) (choices : List (List (List ℕ))) → length choices ≡ length done → length (traversals ss (works_of done) choices) ≡ length done
+length-traversals ss [] [] same = refl
+length-traversals ss [] (c ∷ choices) same = absurd (omega (arith, same))
+length-traversals ss (d ∷ done) [] same = absurd (omega (arith, same))
+length-traversals ss (d ∷ done) (c ∷ choices) same =
+    omega (arith, length-traversals (standings_in d.work.published ss d.work.hand_ins c) done choices (omega (arith, same)))
 
-pub traces-front : (queues : List Queue) (number : ℕ) (done rest : List Phase) (choices : List (List (List ℕ))) → length choices ≡ length done → traces_from queues number (done ++ rest) choices ≡ traces_from queues number done choices
-traces-front queues number [] [] [] same = refl
-traces-front queues number [] (r ∷ rest) [] same = refl
-traces-front queues number [] rest (c ∷ choices) same = absurd (omega (arith, same))
-traces-front queues number (d ∷ done) rest [] same = absurd (omega (arith, same))
-traces-front queues number (d ∷ done) rest (c ∷ choices) same =
-    ap (λ more. phase_trace queues number d c ++ more) (traces-front queues (number + 1) done rest choices (omega (arith, same)))
+-- what was carried in some phases
+abbrev pub past_after : Past → List (List (List Carried)) → Past
+past_after past [] = past
+past_after past (carried ∷ more) = past_after (past_with past carried) more
+
+pub past_after-more : (past : Past) (carried : List (List (List Carried))) (this : List (List Carried)) → past_after past (carried ++ this ∷ []) ≡ past_with (past_after past carried) this
+past_after-more past [] this = refl
+past_after-more past (c ∷ carried) this = past_after-more (past_with past c) carried this
+
+pub texts-more : (interfaces : List Interface) (past : Past) (done : List Phase) (phase : Phase) (rest : List Phase) (carried : List (List (List Carried))) (this : List (List Carried)) → length carried ≡ length done → texts_from interfaces past (done ++ phase ∷ rest) (carried ++ this ∷ []) ≡ texts_from interfaces past done carried ++ phase_text interfaces phase (past_after past carried) (past_with (past_after past carried) this)
+texts-more interfaces past [] phase [] [] this same = append-nil _
+texts-more interfaces past [] phase (r ∷ rest) [] this same = append-nil _
+texts-more interfaces past [] phase rest (c ∷ carried) this same = absurd (omega (arith, same))
+texts-more interfaces past (d ∷ done) phase rest [] this same = absurd (omega (arith, same))
+texts-more interfaces past (d ∷ done) phase rest (c ∷ carried) this same =
+    ap (λ more. phase_text interfaces d past (past_with past c) ++ more)
+    (texts-more interfaces (past_with past c) done phase rest carried this (omega (arith, same)))
+    ∙ sym (append_assoc (phase_text interfaces d past (past_with past c)) _ _)
+
+pub texts-front : (interfaces : List Interface) (past : Past) (done rest : List Phase) (carried : List (List (List Carried))) → length carried ≡ length done → texts_from interfaces past (done ++ rest) carried ≡ texts_from interfaces past done carried
+texts-front interfaces past [] [] [] same = refl
+texts-front interfaces past [] (r ∷ rest) [] same = refl
+texts-front interfaces past [] rest (c ∷ carried) same = absurd (omega (arith, same))
+texts-front interfaces past (d ∷ done) rest [] same = absurd (omega (arith, same))
+texts-front interfaces past (d ∷ done) rest (c ∷ carried) same =
+    ap (λ more. phase_text interfaces d past (past_with past c) ++ more)
+    (texts-front interfaces (past_with past c) done rest carried (omega (arith, same)))
+
+pub traces-more : (number : ℕ) (done : List Phase) (phase : Phase) (rest : List Phase) (carried : List (List (List Carried))) (this : List (List Carried)) → length carried ≡ length done → traces_from number (done ++ phase ∷ rest) (carried ++ this ∷ []) ≡ traces_from number done carried ++ phase_trace (number + length carried) phase.barrier this
+traces-more number [] phase [] [] this same = rw (append-nil) (let none : number + 0 ≡ number = omega arith in rw none refl)
+traces-more number [] phase (r ∷ rest) [] this same = rw (append-nil) (let none : number + 0 ≡ number = omega arith in rw none refl)
+traces-more number [] phase rest (c ∷ carried) this same = absurd (omega (arith, same))
+traces-more number (d ∷ done) phase rest [] this same = absurd (omega (arith, same))
+traces-more number (d ∷ done) phase rest (c ∷ carried) this same =
+    let place : number + 1 + length carried ≡ number + length (c ∷ carried) = omega arith in
+    ap (λ more. phase_trace number d.barrier c ++ more)
+    (traces-more (number + 1) done phase rest carried this (omega (arith, same))
+    ∙ ap (λ n. traces_from (number + 1) done carried ++ phase_trace n phase.barrier this) place)
+    ∙ sym (append_assoc (phase_trace number d.barrier c) _ _)
+
+pub traces-front : (number : ℕ) (done rest : List Phase) (carried : List (List (List Carried))) → length carried ≡ length done → traces_from number (done ++ rest) carried ≡ traces_from number done carried
+traces-front number [] [] [] same = refl
+traces-front number [] (r ∷ rest) [] same = refl
+traces-front number [] rest (c ∷ carried) same = absurd (omega (arith, same))
+traces-front number (d ∷ done) rest [] same = absurd (omega (arith, same))
+traces-front number (d ∷ done) rest (c ∷ carried) same =
+    ap (λ more. phase_trace number d.barrier c ++ more) (traces-front (number + 1) done rest carried (omega (arith, same)))
 
 pub refusal-more : (done : List Phase) (phase : Phase) → has_refusal (done ++ phase ∷ []) ≡ (has_refusal done || list_any is_refused phase.items)
 refusal-more done phase = list_any-append (λ (p : Phase). list_any is_refused p.items) done (phase ∷ []) ∙ ap (λ b. has_refusal done || b) (or-false (list_any is_refused phase.items))

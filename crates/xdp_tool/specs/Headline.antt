@@ -4,12 +4,12 @@ use Rattle.std.specs.Prelude.{String}
 use Rattle.std.specs.String.{string_bytes}
 use Rattle.xio.specs.Told.{Told}
 use Rattle.script_text.specs.declared.script.Script.{Script}
+use Rattle.xdp_state.specs.Legal.{AreLegal}
+use Rattle.xdp_state.specs.Work.{plan_of}
 use Rattle.xdp_tool.specs.Ending.{status_of, line_of, err_text}
-use Rattle.xdp_tool.specs.Legal.{AreLegal}
 use Rattle.xdp_tool.specs.Outcome.{Cut, Whole, phases_of, interfaces_of, ending_after}
-use Rattle.xdp_tool.specs.Queues.{queues_of}
-use Rattle.xdp_tool.specs.Texts.{out_text}
-use Rattle.xdp_tool.specs.Trace.{trace_text}
+use Rattle.xdp_tool.specs.Plan.{works_of}
+use Rattle.xdp_tool.specs.Traversed.{out_for, trace_for}
 use Rattle.xdp_tool.specs.Words.{Names}
 use Rattle.std.specs.Cmp.Lexicographic.{pointwise}
 use Rattle.xio.specs.Prefixes.{AppendsPrefix}
@@ -42,18 +42,18 @@ pub record IsDecided (script : Result Script Ending) (status line : ℕ) : Type 
 
 -- the text of out for the phases that the choices cover
 abbrev pub out_of : Result Script Ending → Cut → List (List (List ℕ)) → List ℕ
-out_of script cut choices = out_text (interfaces_of script) (phases_of script cut) choices
+out_of script cut choices = out_for (interfaces_of script) (phases_of script cut) choices
 
 -- the trace's text for these phases
 abbrev pub trace_of : Result Script Ending → Cut → List (List (List ℕ)) → List ℕ
-trace_of script cut choices = trace_text (queues_of (interfaces_of script)) (phases_of script cut) choices
+trace_of script cut choices = trace_for true (interfaces_of script) (phases_of script cut) choices
 
 -- The choices are legal for the phases that they cover, of the plan with this cut. With a decided status nothing was cut and
 -- all phases are covered.
 pub record IsExplained (script : Result Script Ending) (status : ℕ) (choices : List (List (List ℕ))) (cut : Cut) : Type 0 where
   pub whole : is_decided status ≡ true → cut ≡ Whole
   pub covered : is_decided status ≡ true → length choices ≡ length (phases_of script Whole)
-  pub legal : AreLegal (queues_of (interfaces_of script)) (phases_of script cut) choices
+  pub legal : AreLegal (plan_of (works_of (phases_of script cut))) choices
 
 -- what is said on err
 abbrev pub said : Result Script Ending → ℕ → List ℕ

@@ -1,41 +1,62 @@
 -- How a walk over a script's lines stands for the phase of the lines so far.
-use Rattle.std.specs.Prelude.{◌≡◌, ℕ, ◌≤◌, ◌||◌, Bool, false, List, length}
+use Rattle.std.specs.Prelude.{◌≡◌, ℕ, ◌≤◌, ◌+◌, ◌||◌, Bool, false, List, [], ◌∷◌, ◌++◌, length, Option, Some, None, Result, Ok, Err, ⊤}
 use Rattle.std.specs.List.{list_any}
-use Rattle.xdp_state.specs.Book.{after}
-use Rattle.xdp_state.specs.Sums.{Counted}
+use Rattle.script_text.specs.declared.what.Line.{Line}
+use Rattle.xdp_state.specs.Book.{AllTaken, Book, after}
+use Rattle.xdp_state.specs.Legal.{AreLegalCounts}
+use Rattle.xdp_state.specs.Work.{needs_of}
+use Rattle.xdp_state.specs.declared.change.Change.{Change}
 use Rattle.xdp_state.specs.declared.interface.Interface.{Interface}
-use Rattle.xdp_tool.specs.Lanes.{ShowAll, needs_from, progress_from}
-use Rattle.xdp_tool.specs.Legal.{AreLegalCounts}
-use Rattle.xdp_tool.specs.Plan.{Phase, is_refused, needs_of}
+use Rattle.xdp_state.specs.declared.packet.HandIn.{HandIn}
+use Rattle.xdp_tool.specs.Plan.{Phase, closed, is_refused, next_of, phases_from}
 use Rattle.xdp_tool.specs.Queues.{queues_of}
-use Rattle.xdp_tool.specs.Texts.{counted_with, items_text, nothing_counted}
+use Rattle.xdp_tool.specs.declared.item.Item.{Item}
+use Rattle.xdp_tool.specs.declared.turn.Turn.{Turn}
 use Rattle.xdp_tool.specs.declared.walk.Walk.{Walk}
 
--- What was before the phase under way: by processor the packets that were carried, how many publications there were at its
--- beginning, and whether a command was refused.
-pub record Past : Type 0 where
-  pub counted : List (List Counted)
-  pub published : ℕ
+-- What was before the phase under way: the publications, and whether a command was refused.
+pub record Begun : Type 0 where
+  pub published : List Change
   pub refused : Bool
 
-pub record Stands (walk : Walk) (past : Past) (phase : Phase) : Type 0 where
-  pub state : walk.state ≡ after phase.published
-  pub count : (after phase.published).count ≡ length phase.published
-  pub text : walk.text ≡ items_text walk.interfaces.now past.counted phase.items
-  pub refused : walk.refused ≡ (past.refused || list_any is_refused phase.items)
-  pub lanes : ShowAll walk.lanes.items (progress_from walk.traced 0 (queues_of walk.interfaces.now) past.counted phase)
-  pub processors : length past.counted ≡ length (queues_of walk.interfaces.now)
-  pub grown : past.published ≤ length phase.published
-  pub legal : (processor : ℕ) → AreLegalCounts past.published (length phase.published)
-      (needs_of processor phase.hand_ins) (needs_of processor phase.hand_ins)
+-- the items' counts rise, from the first number to the last
+abbrev pub AreRising : ℕ → List Item → ℕ → Type 0
+AreRising low [] high = low ≤ high
+AreRising low (item ∷ items) high = (low ≤ item.count) × AreRising item.count items high
 
-abbrev pub no_past : List Interface → Past
-no_past interfaces = record { counted = nothing_counted (queues_of interfaces); published = 0; refused = false }
+-- each processor's needs are counts that its packets may be carried with
+abbrev pub AreSteady : ℕ → ℕ → List (List HandIn) → Type 0
+AreSteady low high [] = ⊤
+AreSteady low high (hs ∷ hand_ins) = AreLegalCounts low high (needs_of hs) (needs_of hs) × AreSteady low high hand_ins
 
--- after a phase whose packets were carried at their hand-in
-abbrev pub past_after : List Interface → Past → Phase → Past
-past_after interfaces past phase = record {
-  counted = counted_with 0 (queues_of interfaces) phase (needs_from 0 (queues_of interfaces) phase) past.counted;
-  published = length phase.published;
-  refused = past.refused || list_any is_refused phase.items;
+-- the walk has the items, the changes and the hand-ins of the phase so far
+pub record IsAt (walk : Walk) (begun : Begun) (phase : Phase) : Type 0 where
+  pub items : walk.items.items ≡ phase.items
+  pub published : phase.work.published ≡ begun.published ++ walk.changes.items
+  pub hand_ins : walk.hand_ins.items ≡ phase.work.hand_ins
+  pub packets : walk.packets ≡ phase.packets
+  pub refused : walk.refused ≡ (begun.refused || list_any is_refused phase.items)
+  pub taken : AllTaken phase.work.published
+  pub rising : AreRising (length begun.published) phase.items (length phase.work.published)
+  pub steady : AreSteady (length begun.published) (length phase.work.published) phase.work.hand_ins
+  pub processors : length phase.work.hand_ins ≡ length (queues_of walk.script.now.interfaces)
+  pub open_still : phase.barrier ≡ None
+
+-- a turn gives what is asked, and the walk is at the next phase; where memory is wanting it is where it was
+abbrev pub Goes : {E : Type 0} → Result Turn E → Turn → Walk → Begun → Phase → Phase → Type 0
+Goes (Ok turn) wanted walk begun phase next = (turn ≡ wanted) × IsAt walk begun next
+Goes (Err _) wanted walk begun phase next = IsAt walk begun phase
+
+abbrev pub no_begun : Begun
+no_begun = record { published = []; refused = false }
+
+abbrev pub begun_after : Begun → Phase → Begun
+begun_after begun phase = record {
+  published = phase.work.published;
+  refused = begun.refused || list_any is_refused phase.items;
 }
+
+-- the phases behind one that a barrier or the script's end has ended
+abbrev pub phases_behind : List Interface → Option ℕ → Phase → List Line → List Phase
+phases_behind interfaces (Some line) phase lines = phases_from interfaces (next_of interfaces phase) lines
+phases_behind interfaces None phase lines = []

@@ -1,17 +1,22 @@
 //! `xdptool`: a script of commands and packets, run whole.
 #![tactic(auto)]
 
+mod carrier;
 mod ended;
 mod ending;
-mod lane;
+mod item;
 mod perform;
 mod prepare;
-mod report;
+mod processor;
+mod queue;
+mod run;
 mod tell;
 #[cfg(test)]
 mod tests;
+mod texts;
 mod tool;
 mod traced;
+mod turn;
 mod walk;
 mod words;
 

@@ -1,20 +1,22 @@
-ghost use Rattle.std.specs.Prelude.{◌≡◌, ◌≢◌, ◌⊎◌, ◌+◌, ◌<◌, ◌≤◌, ◌++◌, ℕ, true, [], length, take, if◌then◌else◌, IsTrue, OnOk, IfOk, Err};
-ghost use Rattle.std.specs.List.{list_all};
+ghost use Rattle.std.specs.Prelude.{◌≡◌, ◌≢◌, ◌⊎◌, ◌≤◌, ◌++◌, ℕ, List, [], length, take, if◌then◌else◌, IsTrue, OnOk, IfOk, Err};
 ghost use Rattle.xio.specs.Causes.{Rose};
 ghost use Rattle.xio.specs.Prefixes.{AppendsPrefix};
-ghost use Rattle.script_text.specs.Handed.{has_frame, has_flags};
-ghost use Rattle.xdp_tool.specs.Lanes.{needs_from};
-ghost use Rattle.xdp_tool.specs.Legal.{AreLegal};
+ghost use Rattle.xdp_state.specs.Legal.{AreLegal};
+ghost use Rattle.xdp_state.specs.Sums.{Past, past_with};
+ghost use Rattle.xdp_state.specs.Traversals.{Standing, standings_in};
+ghost use Rattle.xdp_state.specs.Work.{all_needs, plan_of};
 ghost use Rattle.xdp_tool.specs.Order.{AppendsWhole};
 ghost use Rattle.xdp_tool.specs.PhaseEnd.{EndsText, EndsChoices, PutsText};
-ghost use Rattle.xdp_tool.specs.Plan.{Phase, plan, has_refusal, opened, with_what};
-ghost use Rattle.xdp_tool.specs.Queues.{queues_of};
-ghost use Rattle.xdp_tool.specs.Texts.{out_text, phase_text};
-ghost use Rattle.xdp_tool.specs.Trace.{first_line, trace_if, traced_text, traces_if};
-ghost use Rattle.xdp_tool.specs.Walked.{Past, Stands, past_after};
+ghost use Rattle.xdp_tool.specs.Plan.{Phase, closed, has_refusal, next_of, plan, works_of};
+ghost use Rattle.xdp_tool.specs.Ran.{Stands, at_hand_in};
+ghost use Rattle.xdp_tool.specs.Runnable.{IsRunnable};
+ghost use Rattle.xdp_tool.specs.Texts.{phase_text};
+ghost use Rattle.xdp_tool.specs.Trace.{first_line, traced_text};
+ghost use Rattle.xdp_tool.specs.Traversed.{out_for, trace_for, traces_for};
+ghost use Rattle.xdp_tool.specs.Walked.{Begun, begun_after};
 
-use crate::walk::{Closed, Walk};
-use script_text::{Line, Script, What};
+use crate::run::{Closed, Run};
+use script_text::Script;
 use std::alloc::Global;
 use xdp_state::Choices;
 use xio::{Sink, write_all};
@@ -37,28 +39,25 @@ pub fn perform<O: Sink, T: Sink>(
     choices: &mut Choices,
 ) -> Result<bool, Stop>
     requires none { choices.old ≡ [] }
-    requires interfaces { length script.now.interfaces ≤ 8 }
-    requires lines { length script.now.lines ≤ 65536 }
-    requires frames { list_all has_frame script.now.lines ≡ true }
-    requires flags { list_all has_flags script.now.lines ≡ true }
-    ensures legal { AreLegal (queues_of script.now.interfaces) (plan script.now) choices.new }
+    requires script { IsRunnable script.now }
+    ensures legal { AreLegal (plan_of (works_of (plan script.now))) choices.new }
     ensures covered { OnOk result (length choices.new ≡ length (plan script.now)) }
     ensures refused { IfOk result (λ refused. refused ≡ has_refusal (plan script.now)) }
     ensures out_front { IsTrue O.tells → AppendsPrefix (O.held out.old) (O.held out.new)
-        (out_text script.now.interfaces (plan script.now) choices.new) }
+        (out_for script.now.interfaces (plan script.now) choices.new) }
     ensures out_whole { IsTrue O.tells → OnOk result (O.held out.new
-        ≡ O.held out.old ++ out_text script.now.interfaces (plan script.now) choices.new) }
+        ≡ O.held out.old ++ out_for script.now.interfaces (plan script.now) choices.new) }
     ensures out_flushed { IsTrue O.tells → OnOk result (O.flushed out.new ≡ length (O.held out.new)) }
     ensures trace_front { IsTrue T.tells → AppendsPrefix (T.held trace.old) (T.held trace.new)
-        (trace_if traced (queues_of script.now.interfaces) (plan script.now) choices.new) }
+        (trace_for traced script.now.interfaces (plan script.now) choices.new) }
     ensures trace_whole { IsTrue T.tells → OnOk result (T.held trace.new
-        ≡ T.held trace.old ++ trace_if traced (queues_of script.now.interfaces) (plan script.now) choices.new) }
+        ≡ T.held trace.old ++ trace_for traced script.now.interfaces (plan script.now) choices.new) }
     ensures trace_flushed { IsTrue T.tells → OnOk result (T.flushed trace.new ≡ length (T.held trace.new)) }
     ensures ordered { IsTrue O.tells → IsTrue T.tells → (ended : ℕ)
         × AppendsWhole (O.held out.old) (O.held out.new)
-        (out_text script.now.interfaces (plan script.now) (take ended choices.new))
+        (out_for script.now.interfaces (plan script.now) (take ended choices.new))
         × AppendsPrefix (T.held trace.old) (T.held trace.new)
-        (trace_if traced (queues_of script.now.interfaces) (plan script.now) (take ended choices.new)) }
+        (trace_for traced script.now.interfaces (plan script.now) (take ended choices.new)) }
     ensures fault { result ≡ Err Stop.Fault
         → Rose (O.faults out.old) (O.faults out.new) ⊎ Rose (T.faults trace.old) (T.faults trace.new) }
     ensures out_later { O.faults out.old ≤ O.faults out.new }
@@ -97,22 +96,19 @@ fn work<O: Sink, T: Sink>(
     choices: &mut Choices,
 ) -> Result<bool, Stop>
     requires none { choices.old ≡ [] }
-    requires interfaces { length script.now.interfaces ≤ 8 }
-    requires lines { length script.now.lines ≤ 65536 }
-    requires frames { list_all has_frame script.now.lines ≡ true }
-    requires flags { list_all has_flags script.now.lines ≡ true }
-    ensures legal { AreLegal (queues_of script.now.interfaces) (plan script.now) choices.new }
+    requires script { IsRunnable script.now }
+    ensures legal { AreLegal (plan_of (works_of (plan script.now))) choices.new }
     ensures covered { OnOk result (length choices.new ≡ length (plan script.now)) }
     ensures refused { IfOk result (λ refused. refused ≡ has_refusal (plan script.now)) }
     ensures out { IsTrue O.tells → PutsText result (O.held out.old) (O.held out.new)
-        (out_text script.now.interfaces (plan script.now) choices.new) }
+        (out_for script.now.interfaces (plan script.now) choices.new) }
     ensures trace { IsTrue T.tells → PutsText result (T.held trace.old) (T.held trace.new)
-        (traces_if traced (queues_of script.now.interfaces) (plan script.now) choices.new) }
+        (traces_for traced script.now.interfaces (plan script.now) choices.new) }
     ensures ordered { IsTrue O.tells → IsTrue T.tells → (ended : ℕ)
         × AppendsWhole (O.held out.old) (O.held out.new)
-        (out_text script.now.interfaces (plan script.now) (take ended choices.new))
+        (out_for script.now.interfaces (plan script.now) (take ended choices.new))
         × AppendsPrefix (T.held trace.old) (T.held trace.new)
-        (traces_if traced (queues_of script.now.interfaces) (plan script.now) (take ended choices.new)) }
+        (traces_for traced script.now.interfaces (plan script.now) (take ended choices.new)) }
     ensures fault { result ≡ Err Stop.Fault
         → Rose (O.faults out.old) (O.faults out.new) ⊎ Rose (T.faults trace.old) (T.faults trace.new) }
     ensures out_later { O.faults out.old ≤ O.faults out.new }
@@ -120,66 +116,54 @@ fn work<O: Sink, T: Sink>(
     ensures same_out { O.setting out.new ≡ O.setting out.old }
     ensures same_trace { T.setting trace.new ≡ T.setting trace.old }
 {
-    let mut walk = match Walk::new(alloc, &script.interfaces, traced) {
-        Ok(walk) => walk,
+    let mut run = match Run::new(alloc, script) {
+        Ok(run) => run,
         Err(_) => return Err(Stop::OutOfMemory),
     };
-    for line in script.lines.as_slice() {
-        match line.what {
-            What::Barrier => end_phase(alloc, &mut walk, Some(line.line), out, trace, choices)?,
-            _ => do_line(alloc, &mut walk, line)?,
+    'phases: loop {
+        let barrier = match run.walk_phase(alloc) {
+            Ok(barrier) => barrier,
+            Err(_) => return Err(Stop::OutOfMemory),
+        };
+        end_phase(alloc, &mut run, barrier, traced, out, trace, choices)?;
+        if barrier.is_none() {
+            return Ok(run.walk.refused);
         }
-    }
-    end_phase(alloc, &mut walk, None, out, trace, choices)?;
-    Ok(walk.refused)
-}
-
-/// Does what a line asks that is no barrier.
-fn do_line(alloc: Global, walk: &mut Walk<'_>, line: &Line) -> Result<(), Stop>
-    requires frame { has_frame line.now ≡ true }
-    requires flags { has_flags line.now ≡ true }
-    requires room { walk.old.state.count < 65536 }
-    requires interfaces { length walk.old.interfaces.now ≤ 8 }
-    ensures stands { (past : Past) (phase : Phase) → Stands walk.old past phase
-        → OnOk result (Stands walk.new past (with_what walk.old.interfaces.now line.now.line line.now.what phase)) }
-    ensures few { walk.new.state.count ≤ walk.old.state.count + 1 }
-    ensures same { walk.new.interfaces.now ≡ walk.old.interfaces.now }
-    ensures same_traced { walk.new.traced ≡ walk.old.traced }
-    ensures no_fault { result ≢ Err Stop.Fault }
-{
-    match walk.step(alloc, line) {
-        Ok(()) => Ok(()),
-        Err(_) => Err(Stop::OutOfMemory),
     }
 }
 
 /// Ends the phase: its counts become choices, and its texts are written.
 fn end_phase<O: Sink, T: Sink>(
     alloc: Global,
-    walk: &mut Walk<'_>,
+    run: &mut Run<'_>,
     barrier: Option<u32>,
+    traced: bool,
     out: &mut O,
     trace: &mut T,
     choices: &mut Choices,
 ) -> Result<(), Stop>
-    ensures stands { (past : Past) (phase : Phase) → Stands walk.old past phase
-        → OnOk result (Stands walk.new (past_after walk.old.interfaces.now past phase) (opened phase.published)) }
-    ensures choices { (past : Past) (phase : Phase) → Stands walk.old past phase
-        → EndsChoices result choices.old choices.new (needs_from 0 (queues_of walk.old.interfaces.now) phase) }
-    ensures out { IsTrue O.tells → (past : Past) (phase : Phase) → Stands walk.old past phase
-        → EndsText result (O.held out.old) (O.held out.new) (phase_text walk.old.interfaces.now
-        (record phase { barrier = barrier }) past.counted (past_after walk.old.interfaces.now past phase).counted) }
-    ensures trace { IsTrue T.tells → (past : Past) (phase : Phase) → Stands walk.old past phase
-        → EndsText result (T.held trace.old) (T.held trace.new) (traced_text walk.old.traced
-        (queues_of walk.old.interfaces.now) (length choices.old) (record phase { barrier = barrier })
-        (needs_from 0 (queues_of walk.old.interfaces.now) phase)) }
-    ensures ordered { IsTrue O.tells → IsTrue T.tells → (past : Past) (phase : Phase) → Stands walk.old past phase
-        → (O.held out.new ≡ O.held out.old ++ phase_text walk.old.interfaces.now (record phase { barrier = barrier })
-        past.counted (past_after walk.old.interfaces.now past phase).counted) ⊎ (T.held trace.new ≡ T.held trace.old) }
-    ensures same_count { walk.new.state ≡ walk.old.state }
-    ensures same { walk.new.interfaces.now ≡ walk.old.interfaces.now }
-    ensures same_traced { walk.new.traced ≡ walk.old.traced }
-    ensures same_refused { walk.new.refused ≡ walk.old.refused }
+    ensures stands { (begun : Begun) (past : Past) (standings : List Standing) (phase : Phase)
+        → Stands run.old begun past standings phase → OnOk result (Stands run.new (begun_after begun phase)
+        (past_with past (at_hand_in standings phase)) (standings_in phase.work.published standings phase.work.hand_ins
+        (all_needs phase.work.hand_ins)) (next_of run.old.walk.script.now.interfaces phase)) }
+    ensures choices { (begun : Begun) (past : Past) (standings : List Standing) (phase : Phase)
+        → Stands run.old begun past standings phase
+        → EndsChoices result choices.old choices.new (all_needs phase.work.hand_ins) }
+    ensures out { IsTrue O.tells → (begun : Begun) (past : Past) (standings : List Standing) (phase : Phase)
+        → Stands run.old begun past standings phase → EndsText result (O.held out.old) (O.held out.new)
+        (phase_text run.old.walk.script.now.interfaces (closed barrier phase) past (past_with past (at_hand_in standings phase))) }
+    ensures trace { IsTrue T.tells → (begun : Begun) (past : Past) (standings : List Standing) (phase : Phase)
+        → Stands run.old begun past standings phase → EndsText result (T.held trace.old) (T.held trace.new)
+        (traced_text traced (length choices.old) barrier (at_hand_in standings phase)) }
+    ensures ordered { IsTrue O.tells → IsTrue T.tells → (begun : Begun) (past : Past) (standings : List Standing) (phase : Phase)
+        → Stands run.old begun past standings phase → (O.held out.new ≡ O.held out.old
+        ++ phase_text run.old.walk.script.now.interfaces (closed barrier phase) past (past_with past (at_hand_in standings phase)))
+        ⊎ (T.held trace.new ≡ T.held trace.old) }
+    ensures same_refused { run.new.walk.refused ≡ run.old.walk.refused }
+    ensures same_next { run.new.walk.next ≡ run.old.walk.next }
+    ensures same_packets { run.new.walk.packets ≡ run.old.walk.packets }
+    ensures same_state { run.new.state ≡ run.old.state }
+    ensures same { run.new.walk.script.now ≡ run.old.walk.script.now }
     ensures fault { result ≡ Err Stop.Fault
         → Rose (O.faults out.old) (O.faults out.new) ⊎ Rose (T.faults trace.old) (T.faults trace.new) }
     ensures out_later { O.faults out.old ≤ O.faults out.new }
@@ -187,15 +171,15 @@ fn end_phase<O: Sink, T: Sink>(
     ensures same_out { O.setting out.new ≡ O.setting out.old }
     ensures same_trace { T.setting trace.new ≡ T.setting trace.old }
 {
-    let closed = match walk.close(alloc, choices.len(), barrier) {
-        Ok(closed) => closed,
+    let done = match run.close(alloc, choices.len(), barrier, traced) {
+        Ok(done) => done,
         Err(_) => return Err(Stop::OutOfMemory),
     };
     let Closed {
         counts,
         out: text,
         trace: trace_text,
-    } = closed;
+    } = done;
     match choices.push(counts) {
         Ok(()) => put_both(out, text.as_slice(), trace, trace_text.as_slice()),
         Err(_) => Err(Stop::OutOfMemory),

@@ -1,11 +1,10 @@
 ghost use Rattle.std.specs.Prelude.{◌≡◌, ◌≢◌, ◌≤◌, [], ◌∷◌, true, false, length, Err, IfOk, IfErr, IsTrue, None};
-ghost use Rattle.std.specs.List.{list_all};
-ghost use Rattle.script_text.specs.Handed.{has_frame, has_flags};
 ghost use Rattle.xio.specs.Causes.{Rose};
 ghost use Rattle.xdp_tool.specs.Ending.{status_of};
 ghost use Rattle.xdp_tool.specs.Headline.{is_end, Touches};
 ghost use Rattle.xdp_tool.specs.Named.{Prepares};
 ghost use Rattle.xdp_tool.specs.Outcome.{script_at};
+ghost use Rattle.xdp_tool.specs.Runnable.{IsRunnable};
 
 use crate::ending::{Ending, LimitName};
 use script_text::{Script, ScriptEnd, read_script};
@@ -18,10 +17,7 @@ const SCRIPT_BYTES: u64 = 16_777_216;
 /// The script in the named file.
 pub fn prepare<F: Files>(alloc: Global, files: &mut F, name: &str) -> Result<Script, Ending>
     ensures script { IsTrue F.tells → Prepares result (script_at ((F.told files.old).content name.now)) }
-    ensures interfaces { IfOk result (λ script. length script.interfaces ≤ 8) }
-    ensures lines { IfOk result (λ script. length script.lines ≤ 65536) }
-    ensures frames { IfOk result (λ script. list_all has_frame script.lines ≡ true) }
-    ensures flags { IfOk result (λ script. list_all has_flags script.lines ≡ true) }
+    ensures runnable { IfOk result IsRunnable }
     ensures failed { IfErr result (λ ending. is_end (status_of ending) ≡ false) }
     ensures fault { result ≡ Err Ending.Fault → Rose (F.read_faults files.old) (F.read_faults files.new) }
     ensures same_write_faults { F.write_faults files.new ≡ F.write_faults files.old }
@@ -41,10 +37,7 @@ pub fn prepare<F: Files>(alloc: Global, files: &mut F, name: &str) -> Result<Scr
 fn script_in(alloc: Global, bytes: &[u8]) -> Result<Script, Ending>
     requires { length bytes.now ≤ 16777216 }
     ensures script { Prepares result (script_at bytes.now) }
-    ensures interfaces { IfOk result (λ script. length script.interfaces ≤ 8) }
-    ensures lines { IfOk result (λ script. length script.lines ≤ 65536) }
-    ensures frames { IfOk result (λ script. list_all has_frame script.lines ≡ true) }
-    ensures flags { IfOk result (λ script. list_all has_flags script.lines ≡ true) }
+    ensures runnable { IfOk result IsRunnable }
     ensures failed { IfErr result (λ ending. is_end (status_of ending) ≡ false) }
     ensures no_fault { result ≢ Err Ending.Fault }
 {

@@ -1,15 +1,13 @@
 ghost use Rattle.std.specs.Prelude.{◌≡◌, ◌⊎◌, ◌≤◌, ◌++◌, ℕ, true, [], ◌∷◌, length, take, IsTrue, OnOk, IfOk, Err, Some};
-ghost use Rattle.std.specs.List.{list_all};
 ghost use Rattle.xio.specs.Causes.{Rose};
 ghost use Rattle.xio.specs.Prefixes.{AppendsPrefix};
-ghost use Rattle.script_text.specs.Handed.{has_frame, has_flags};
 ghost use Rattle.xdp_tool.specs.Headline.{IsTraced, IsTracedUpTo, Touches};
-ghost use Rattle.xdp_tool.specs.Legal.{AreLegal};
+ghost use Rattle.xdp_state.specs.Legal.{AreLegal};
+ghost use Rattle.xdp_state.specs.Work.{plan_of};
 ghost use Rattle.xdp_tool.specs.Order.{AppendsWhole};
-ghost use Rattle.xdp_tool.specs.Plan.{plan, has_refusal};
-ghost use Rattle.xdp_tool.specs.Queues.{queues_of};
-ghost use Rattle.xdp_tool.specs.Texts.{out_text};
-ghost use Rattle.xdp_tool.specs.Trace.{trace_text};
+ghost use Rattle.xdp_tool.specs.Plan.{plan, has_refusal, works_of};
+ghost use Rattle.xdp_tool.specs.Runnable.{IsRunnable};
+ghost use Rattle.xdp_tool.specs.Traversed.{out_for, trace_for};
 
 use crate::perform::{Stop, perform};
 use script_text::Script;
@@ -27,27 +25,24 @@ pub fn perform_into<F: Files, O: Sink>(
     choices: &mut Choices,
 ) -> Result<bool, Stop>
     requires none { choices.old ≡ [] }
-    requires interfaces { length script.now.interfaces ≤ 8 }
-    requires lines { length script.now.lines ≤ 65536 }
-    requires frames { list_all has_frame script.now.lines ≡ true }
-    requires flags { list_all has_flags script.now.lines ≡ true }
-    ensures legal { AreLegal (queues_of script.now.interfaces) (plan script.now) choices.new }
+    requires script { IsRunnable script.now }
+    ensures legal { AreLegal (plan_of (works_of (plan script.now))) choices.new }
     ensures covered { OnOk result (length choices.new ≡ length (plan script.now)) }
     ensures refused { IfOk result (λ refused. refused ≡ has_refusal (plan script.now)) }
     ensures out_front { IsTrue O.tells → AppendsPrefix (O.held out.old) (O.held out.new)
-        (out_text script.now.interfaces (plan script.now) choices.new) }
+        (out_for script.now.interfaces (plan script.now) choices.new) }
     ensures out_whole { IsTrue O.tells → OnOk result (O.held out.new
-        ≡ O.held out.old ++ out_text script.now.interfaces (plan script.now) choices.new) }
+        ≡ O.held out.old ++ out_for script.now.interfaces (plan script.now) choices.new) }
     ensures out_flushed { IsTrue O.tells → OnOk result (O.flushed out.new ≡ length (O.held out.new)) }
     ensures trace_front { IsTrue F.tells → IsTracedUpTo (F.told files.old) (F.told files.new)
-        (trace_text (queues_of script.now.interfaces) (plan script.now) choices.new) name.now }
+        (trace_for true script.now.interfaces (plan script.now) choices.new) name.now }
     ensures trace_whole { IsTrue F.tells → OnOk result (IsTraced (F.told files.new)
-        (trace_text (queues_of script.now.interfaces) (plan script.now) choices.new) name.now) }
+        (trace_for true script.now.interfaces (plan script.now) choices.new) name.now) }
     ensures ordered { IsTrue F.tells → IsTrue O.tells → (ended : ℕ)
         × AppendsWhole (O.held out.old) (O.held out.new)
-        (out_text script.now.interfaces (plan script.now) (take ended choices.new))
+        (out_for script.now.interfaces (plan script.now) (take ended choices.new))
         × IsTracedUpTo (F.told files.old) (F.told files.new)
-        (trace_text (queues_of script.now.interfaces) (plan script.now) (take ended choices.new)) name.now }
+        (trace_for true script.now.interfaces (plan script.now) (take ended choices.new)) name.now }
     ensures touched { IsTrue F.tells → Touches (F.told files.old) (F.told files.new) [] (Some name.now) }
     ensures same_handles { F.handles files.new ≡ F.handles files.old }
     ensures fault { result ≡ Err Stop.Fault

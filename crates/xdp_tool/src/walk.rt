@@ -1,291 +1,266 @@
-ghost use Rattle.std.specs.Prelude.{◌≡◌, ◌+◌, ◌<◌, ◌≤◌, true, List, [], ◌++◌, length, map, flat_map, IfOk, OnOk};
+ghost use Rattle.std.specs.Prelude.{◌≡◌, ◌⊎◌, ◌+◌, ◌*◌, ◌<◌, ◌≤◌, true, [], length, replicate, drop, None, IfOk, OnOk, OnErr};
+ghost use Rattle.std.specs.List.{list_all};
 ghost use Rattle.script_text.specs.Frames.{has_frame_size};
 ghost use Rattle.script_text.specs.Handed.{has_frame, has_flags};
-ghost use Rattle.xdp_state.specs.Sums.{tally_of};
-ghost use Rattle.xdp_tool.specs.Lanes.{Progress, ShowAll, idle, advance_from, finished};
-ghost use Rattle.xdp_tool.specs.Queues.{Queue, queues_on, queues_of};
+ghost use Rattle.xdp_state.specs.declared.packet.HandIn.{HandIn};
+ghost use Rattle.xdp_tool.specs.Plan.{handed_to};
+ghost use Rattle.xdp_tool.specs.Runnable.{IsRunnable};
 
-use crate::lane::Lane;
-use crate::report::{closing_text, lanes_text, phase_trace};
-use script_text::{Line, Outcome, What, outcome_text, rules_text};
+use crate::item::Item;
+use crate::turn::Turn;
+use script_text::{Line, Outcome, Script, What};
 use std::alloc::Global;
-use xdp_state::{
-    Change, Command, Interface, InterfaceList, Judgement, NeedsList, Reason, State, Tally, judge,
-};
+use xdp_state::{Change, Command, HandIn, HandInList, Judgement, Packet, Reason, State, judge};
 use xio::{Bytes, OutOfMemory};
 
-/// A walk over the lines of a script: the publications so far, what the processors carried, and what is to be printed of
-/// the phase under way.
+/// A walk over the lines of a script, which plans and carries nothing: what came of the lines of the phase under way, the
+/// changes that it publishes, and by processor the packets that it hands in.
 #[derive(Debug, Drop)]
 pub struct Walk<'a> {
-    pub interfaces: &'a InterfaceList,
-    pub state: State,
-    pub lanes: Vec<Lane<'a>>,
-    pub text: Bytes,
-    /// whether a command was refused, and whether a trace is wanted
+    pub script: &'a Script,
+    /// the place of the next line
+    pub next: u32,
+    pub items: Vec<Item>,
+    pub changes: Vec<Change>,
+    pub hand_ins: Vec<HandInList>,
+    /// how many packets were handed in, and whether a command was refused, also in the phases before
+    pub packets: u32,
     pub refused: bool,
-    pub traced: bool,
-}
-
-/// What a phase leaves when it ends: the counts of its packets, and the texts for out and for the trace.
-#[derive(Debug, Drop)]
-pub struct Closed {
-    pub counts: NeedsList,
-    pub out: Bytes,
-    pub trace: Bytes,
 }
 
 impl<'a> Walk<'a> {
-    ghost use Rattle.script_text.specs.Texts.{outcome_text};
     ghost use Rattle.xdp_state.specs.Answer.{answer, rule_fits};
     ghost use Rattle.xdp_state.specs.Book.{after, takes};
     ghost use Rattle.xdp_state.specs.declared.judgement.Judgement.TheVariants as judgement;
-    ghost use Rattle.xdp_tool.specs.Plan.{Phase, opened, with_what, with_answer, with_packet};
-    ghost use Rattle.xdp_tool.specs.Closed.{Closes};
-    ghost use Rattle.xdp_tool.specs.Lanes.{needs_from};
-    ghost use Rattle.xdp_tool.specs.Trace.{traced_text};
-    ghost use Rattle.xdp_tool.specs.Walked.{Past, Stands, no_past, past_after};
+    ghost use Rattle.xdp_tool.specs.Plan.{Phase, opened, next_of, with_what, with_answer, with_packet};
+    ghost use Rattle.xdp_tool.specs.Queues.{queues_of};
+    ghost use Rattle.xdp_tool.specs.Turn.{answered, asked, turn_of, phase_after};
+    ghost use Rattle.xdp_tool.specs.Walked.{Begun, Goes, IsAt, begun_after, no_begun};
 
-    /// Before the first line.
-    pub fn new(
-        alloc: Global,
-        interfaces: &'a InterfaceList,
-        traced: bool,
-    ) -> Result<Self, OutOfMemory>
-        ensures start { IfOk result (λ walk. Stands walk (no_past interfaces.now) (opened [])) }
-        ensures same { IfOk result (λ walk. walk.interfaces.now ≡ interfaces.now) }
-        ensures traced { IfOk result (λ walk. walk.traced ≡ traced) }
+    /// Before the first line, with so many processors.
+    pub fn new(alloc: Global, script: &'a Script, processors: usize) -> Result<Self, OutOfMemory>
+        requires { processors ≡ length (queues_of script.now.interfaces) }
+        ensures start { IfOk result (λ walk. IsAt walk no_begun (opened processors [] 0)) }
+        ensures same { IfOk result (λ walk. walk.script.now ≡ script.now) }
+        ensures next { IfOk result (λ walk. walk.next ≡ 0) }
     {
         Ok(Walk {
-            interfaces,
-            state: State::new(alloc)?,
-            lanes: lanes_of(alloc, interfaces, traced)?,
-            text: Bytes::new(alloc),
+            script,
+            next: 0,
+            items: Vec::new(alloc),
+            changes: Vec::new(alloc),
+            hand_ins: no_hand_ins(alloc, processors)?,
+            packets: 0,
             refused: false,
-            traced,
         })
     }
 
-    /// Does what a line asks that is no barrier.
-    pub fn step(&mut self, alloc: Global, line: &Line) -> Result<(), OutOfMemory>
+    /// Takes the next line, with the state after all publications so far. Where memory is wanting all stays as it was.
+    pub fn next(&mut self, alloc: Global, state: &State) -> Result<Turn, OutOfMemory>
+        requires script { IsRunnable self.old.script.now }
+        requires within { self.old.next ≤ length self.old.script.now.lines }
+        requires published { state.now.count ≤ self.old.next }
+        requires packets { self.old.packets ≤ self.old.next }
+        ensures goes { (begun : Begun) (phase : Phase) → IsAt self.old begun phase → state.now ≡ after phase.work.published
+            → Goes result (turn_of self.old.script.now.interfaces phase (drop self.old.next self.old.script.now.lines))
+            self.new begun phase (phase_after self.old.script.now.interfaces phase (drop self.old.next self.old.script.now.lines)) }
+        ensures moves { IfOk result (λ turn. (turn ≡ Turn.End None) ⊎ (self.new.next ≡ self.old.next + 1)) }
+        ensures stays { OnErr result (self.new.next ≡ self.old.next) }
+        ensures later { self.old.next ≤ self.new.next }
+        ensures within { OnOk result (self.new.next ≤ length self.new.script.now.lines) }
+        ensures packets { OnOk result (self.new.packets ≤ self.new.next) }
+        ensures same { self.new.script.now ≡ self.old.script.now }
+    {
+        let script = self.script;
+        if self.next >= script.lines.len() {
+            return Ok(Turn::End { barrier: None });
+        }
+        let turn = self.step(alloc, state, script.lines.at(self.next))?;
+        self.next += 1;
+        Ok(turn)
+    }
+
+    fn step(&mut self, alloc: Global, state: &State, line: &Line) -> Result<Turn, OutOfMemory>
         requires frame { has_frame line.now ≡ true }
         requires flags { has_flags line.now ≡ true }
-        requires room { self.old.state.count < 65536 }
-        requires interfaces { length self.old.interfaces.now ≤ 8 }
-        ensures stands { (past : Past) (phase : Phase) → Stands self.old past phase
-            → OnOk result (Stands self.new past (with_what self.old.interfaces.now line.now.line line.now.what phase)) }
-        ensures few { self.new.state.count ≤ self.old.state.count + 1 }
-        ensures same { self.new.interfaces.now ≡ self.old.interfaces.now }
-        ensures same_traced { self.new.traced ≡ self.old.traced }
+        requires interfaces { length self.old.script.now.interfaces ≤ 8 }
+        requires room { state.now.count < 65536 }
+        requires few { self.old.packets < 65536 }
+        ensures goes { (begun : Begun) (phase : Phase) → IsAt self.old begun phase → state.now ≡ after phase.work.published
+            → Goes result (asked self.old.script.now.interfaces phase line.now.line line.now.what)
+            self.new begun phase (with_what self.old.script.now.interfaces line.now.line line.now.what phase) }
+        ensures packets { self.new.packets ≤ self.old.packets + 1 }
+        ensures same_next { self.new.next ≡ self.old.next }
+        ensures same { self.new.script.now ≡ self.old.script.now }
     {
         match &line.what {
-            What::Command(command) => self.answer(alloc, line.line, command),
+            What::Command(command) => self.answer(state, line.line, command),
             What::Packet { processor, frame } => {
-                self.carry(alloc, line.line, *processor, frame.as_slice())
+                self.hand_in(alloc, state, line.line, *processor, frame.as_slice())
             }
-            What::Barrier => Ok(()),
+            What::Barrier => Ok(Turn::End {
+                barrier: Some(line.line),
+            }),
         }
     }
 
     /// Answers a command.
-    fn answer(&mut self, alloc: Global, line: u32, command: &Command) -> Result<(), OutOfMemory>
+    fn answer(&mut self, state: &State, line: u32, command: &Command) -> Result<Turn, OutOfMemory>
         requires flags { rule_fits command.now ≡ true }
-        requires room { self.old.state.count < 65536 }
-        requires interfaces { length self.old.interfaces.now ≤ 8 }
-        ensures stands { (past : Past) (phase : Phase) → Stands self.old past phase → OnOk result (Stands self.new past
-            (with_answer line (answer self.old.interfaces.now (after phase.published) command.now) phase)) }
-        ensures few { self.new.state.count ≤ self.old.state.count + 1 }
-        ensures same { self.new.interfaces.now ≡ self.old.interfaces.now }
-        ensures same_traced { self.new.traced ≡ self.old.traced }
+        requires room { state.now.count < 65536 }
+        requires interfaces { length self.old.script.now.interfaces ≤ 8 }
+        ensures goes { (begun : Begun) (phase : Phase) → IsAt self.old begun phase → state.now ≡ after phase.work.published
+            → Goes result (answered (answer self.old.script.now.interfaces (after phase.work.published) command.now))
+            self.new begun phase (with_answer line (answer self.old.script.now.interfaces (after phase.work.published) command.now) phase) }
+        ensures same_packets { self.new.packets ≡ self.old.packets }
+        ensures same_next { self.new.next ≡ self.old.next }
+        ensures same { self.new.script.now ≡ self.old.script.now }
     {
-        match judge(&self.state, self.interfaces, command) {
-            Judgement::Accepted(change) => self.publish(alloc, line, &change),
-            Judgement::Shown => self.show(alloc, line),
-            Judgement::Refused(reason) => self.refuse(alloc, line, reason),
+        match judge(state, &self.script.interfaces, command) {
+            Judgement::Accepted(change) => self.accept(state, line, change),
+            Judgement::Shown => self.show(state, line),
+            Judgement::Refused(reason) => self.refuse(state, line, reason),
         }
     }
 
-    /// Makes a change that the state takes the next publication.
-    fn publish(&mut self, alloc: Global, line: u32, change: &Change) -> Result<(), OutOfMemory>
-        requires { takes self.old.state change.now ≡ true }
-        ensures stands { (past : Past) (phase : Phase) → Stands self.old past phase
-            → OnOk result (Stands self.new past (with_answer line (judgement.Accepted change.now) phase)) }
-        ensures few { self.new.state.count ≤ self.old.state.count + 1 }
-        ensures same { self.new.interfaces.now ≡ self.old.interfaces.now }
-        ensures same_traced { self.new.traced ≡ self.old.traced }
+    /// Keeps a change that the state takes as the next publication.
+    fn accept(&mut self, state: &State, line: u32, change: Change) -> Result<Turn, OutOfMemory>
+        requires taken { takes state.now change ≡ true }
+        requires room { state.now.count < 65536 }
+        ensures goes { (begun : Begun) (phase : Phase) → IsAt self.old begun phase → state.now ≡ after phase.work.published
+            → Goes result (answered (judgement.Accepted change)) self.new begun phase (with_answer line (judgement.Accepted change) phase) }
+        ensures same_packets { self.new.packets ≡ self.old.packets }
+        ensures same_next { self.new.next ≡ self.old.next }
+        ensures same { self.new.script.now ≡ self.old.script.now }
     {
-        self.state.absorb(change);
-        let outcome = Outcome::Ok(self.state.count());
-        self.print(alloc, line, &outcome)
+        let count = state.count() + 1;
+        self.changes.reserve(1)?;
+        self.items.push(Item {
+            line,
+            outcome: Outcome::Ok(count),
+            count,
+        })?;
+        self.changes.push_reserved(change);
+        Ok(Turn::Publish(change))
     }
 
-    /// Shows the filters, their rules and the sums of the phases that have ended.
-    fn show(&mut self, alloc: Global, line: u32) -> Result<(), OutOfMemory>
-        ensures stands { (past : Past) (phase : Phase) → Stands self.old past phase
-            → OnOk result (Stands self.new past (with_answer line judgement.Shown phase)) }
-        ensures same_state { self.new.state ≡ self.old.state }
-        ensures same { self.new.interfaces.now ≡ self.old.interfaces.now }
-        ensures same_traced { self.new.traced ≡ self.old.traced }
+    fn show(&mut self, state: &State, line: u32) -> Result<Turn, OutOfMemory>
+        ensures goes { (begun : Begun) (phase : Phase) → IsAt self.old begun phase → state.now ≡ after phase.work.published
+            → Goes result (answered judgement.Shown) self.new begun phase (with_answer line judgement.Shown phase) }
+        ensures same_packets { self.new.packets ≡ self.old.packets }
+        ensures same_next { self.new.next ≡ self.old.next }
+        ensures same { self.new.script.now ≡ self.old.script.now }
     {
-        self.print(alloc, line, &Outcome::Shown)?;
-        let sums = ended(alloc, &self.lanes)?;
-        let table = rules_text(alloc, &self.state, self.interfaces, &sums)?;
-        self.text.append(table.as_slice())
+        self.items.push(Item {
+            line,
+            outcome: Outcome::Shown,
+            count: state.count(),
+        })?;
+        Ok(Turn::Again)
     }
 
-    /// Says why a command is refused.
-    fn refuse(&mut self, alloc: Global, line: u32, reason: Reason) -> Result<(), OutOfMemory>
-        ensures stands { (past : Past) (phase : Phase) → Stands self.old past phase
-            → OnOk result (Stands self.new past (with_answer line (judgement.Refused reason) phase)) }
-        ensures same_state { self.new.state ≡ self.old.state }
-        ensures same { self.new.interfaces.now ≡ self.old.interfaces.now }
-        ensures same_traced { self.new.traced ≡ self.old.traced }
+    fn refuse(&mut self, state: &State, line: u32, reason: Reason) -> Result<Turn, OutOfMemory>
+        ensures goes { (begun : Begun) (phase : Phase) → IsAt self.old begun phase → state.now ≡ after phase.work.published
+            → Goes result (answered (judgement.Refused reason)) self.new begun phase (with_answer line (judgement.Refused reason) phase) }
+        ensures same_packets { self.new.packets ≡ self.old.packets }
+        ensures same_next { self.new.next ≡ self.old.next }
+        ensures same { self.new.script.now ≡ self.old.script.now }
     {
+        self.items.push(Item {
+            line,
+            outcome: Outcome::Refused(reason),
+            count: state.count(),
+        })?;
         self.refused = true;
-        self.print(alloc, line, &Outcome::Refused(reason))
+        Ok(Turn::Again)
     }
 
-    /// Hands a packet in and carries it at once.
-    fn carry(
+    /// Hands a packet in.
+    fn hand_in(
         &mut self,
         alloc: Global,
+        state: &State,
         line: u32,
         processor: u32,
         frame: &[u8],
-    ) -> Result<(), OutOfMemory>
-        requires { has_frame_size frame.now ≡ true }
-        ensures stands { (past : Past) (phase : Phase) → Stands self.old past phase
-            → OnOk result (Stands self.new past (with_packet line processor frame.now phase)) }
-        ensures same_state { self.new.state ≡ self.old.state }
-        ensures same { self.new.interfaces.now ≡ self.old.interfaces.now }
-        ensures same_traced { self.new.traced ≡ self.old.traced }
+    ) -> Result<Turn, OutOfMemory>
+        requires frame { has_frame_size frame.now ≡ true }
+        requires few { self.old.packets < 65536 }
+        ensures goes { (begun : Begun) (phase : Phase) → IsAt self.old begun phase → state.now ≡ after phase.work.published
+            → Goes result (Turn.HandIn processor) self.new begun phase (with_packet line processor frame.now phase) }
+        ensures packets { self.new.packets ≤ self.old.packets + 1 }
+        ensures same_next { self.new.next ≡ self.old.next }
+        ensures same { self.new.script.now ≡ self.old.script.now }
     {
-        carry_on(alloc, &mut self.lanes, processor, &self.state, frame)?;
-        self.print(alloc, line, &Outcome::Handed { packets: 1 })
+        let packet = packet_of(alloc, self.packets, line, frame)?;
+        self.items.reserve(1)?;
+        let hand_in = HandIn {
+            packet,
+            need: state.count(),
+        };
+        add_hand_in(&mut self.hand_ins, processor, hand_in)?;
+        self.items.push_reserved(Item {
+            line,
+            outcome: Outcome::Handed { packets: 1 },
+            count: state.count(),
+        });
+        self.packets += 1;
+        Ok(Turn::HandIn { processor })
     }
 
-    /// Puts what came of a line behind the text.
-    fn print(&mut self, alloc: Global, line: u32, outcome: &Outcome) -> Result<(), OutOfMemory>
-        ensures text { OnOk result (self.new.text ≡ self.old.text ++ outcome_text line outcome.now) }
-        ensures same { self.new ≡ record self.old { text = self.new.text } }
-    {
-        let text = outcome_text(alloc, line, outcome)?;
-        self.text.append(text.as_slice())
-    }
-
-    /// Ends the phase of this number, at the barrier of this line or at the script's end.
-    pub fn close(
-        &mut self,
-        alloc: Global,
-        number: u32,
-        barrier: Option<u32>,
-    ) -> Result<Closed, OutOfMemory>
-        ensures stands { (past : Past) (phase : Phase) → Stands self.old past phase
-            → OnOk result (Stands self.new (past_after self.old.interfaces.now past phase) (opened phase.published)) }
-        ensures closed { (past : Past) (phase : Phase) → Stands self.old past phase → IfOk result (λ closed. Closes closed
-            self.old.interfaces.now self.old.traced number past phase barrier) }
-        ensures same_state { self.new.state ≡ self.old.state }
-        ensures same { self.new.interfaces.now ≡ self.old.interfaces.now }
+    /// Opens the next phase.
+    pub fn open_next(&mut self, alloc: Global) -> Result<(), OutOfMemory>
+        ensures opened { (begun : Begun) (phase : Phase) → IsAt self.old begun phase
+            → OnOk result (IsAt self.new (begun_after begun phase) (next_of self.old.script.now.interfaces phase)) }
+        ensures same_packets { self.new.packets ≡ self.old.packets }
         ensures same_refused { self.new.refused ≡ self.old.refused }
-        ensures same_traced { self.new.traced ≡ self.old.traced }
+        ensures same_next { self.new.next ≡ self.old.next }
+        ensures same { self.new.script.now ≡ self.old.script.now }
     {
-        let trace = self.trace(alloc, number, barrier)?;
-        let counts = finish_all(alloc, &mut self.lanes)?;
-        let mut out = std::mem::replace(&mut self.text, Bytes::new(alloc));
-        let closing = closing_text(alloc, barrier, self.state.count())?;
-        out.append(closing.as_slice())?;
-        out.append(lanes_text(alloc, &self.lanes)?.as_slice())?;
-        Ok(Closed { counts, out, trace })
-    }
-
-    /// The phase's trace, where one is wanted.
-    fn trace(&self, alloc: Global, number: u32, barrier: Option<u32>) -> Result<Bytes, OutOfMemory>
-        ensures { (past : Past) (phase : Phase) → Stands self.now past phase → IfOk result (λ text. text
-            ≡ traced_text self.now.traced (queues_of self.now.interfaces.now) number (record phase { barrier = barrier })
-            (needs_from 0 (queues_of self.now.interfaces.now) phase)) }
-    {
-        if self.traced {
-            phase_trace(alloc, number, &self.lanes, barrier)
-        } else {
-            Ok(Bytes::new(alloc))
-        }
+        self.hand_ins = no_hand_ins(alloc, self.hand_ins.len())?;
+        self.items.clear();
+        self.changes.clear();
+        Ok(())
     }
 }
 
-/// The sums of the phases that have ended, over all processors.
-fn ended(alloc: Global, lanes: &[Lane<'_>]) -> Result<Tally, OutOfMemory>
-    ensures { (progress : List Progress) → ShowAll lanes.now progress
-        → IfOk result (λ sums. sums ≡ tally_of (flat_map (λ p. p.before) progress)) }
+/// No packet of so many processors.
+fn no_hand_ins(alloc: Global, processors: usize) -> Result<Vec<HandInList>, OutOfMemory>
+    ensures { IfOk result (λ lists. lists.items ≡ replicate processors []) }
 {
-    let mut sums = Tally::new(alloc);
-    for lane in lanes {
-        sums.merge(&lane.ended)?;
+    let mut lists = Vec::new(alloc);
+    for _ in 0..processors {
+        lists.push(HandInList::new(alloc))?;
     }
-    Ok(sums)
+    Ok(lists)
 }
 
-/// Ends the phase on each lane, and answers the counts of each.
-fn finish_all(alloc: Global, lanes: &mut Vec<Lane<'_>>) -> Result<NeedsList, OutOfMemory>
-    ensures lanes { (progress : List Progress) → ShowAll lanes.old.items progress
-        → OnOk result (ShowAll lanes.new.items (map finished progress)) }
-    ensures counts { (progress : List Progress) → ShowAll lanes.old.items progress
-        → IfOk result (λ counts. counts ≡ map (λ p. p.counts) progress) }
-{
-    let mut counts = NeedsList::new(alloc);
-    for place in 0..lanes.len() {
-        counts.push(lanes[place].finish(alloc)?)?;
-    }
-    Ok(counts)
-}
-
-/// Carries a frame on the lane of the processor.
-fn carry_on(
-    alloc: Global,
-    lanes: &mut Vec<Lane<'_>>,
+/// Puts a packet behind those of the processor.
+fn add_hand_in(
+    hand_ins: &mut Vec<HandInList>,
     processor: u32,
-    state: &State,
-    frame: &[u8],
+    hand_in: HandIn,
 ) -> Result<(), OutOfMemory>
-    requires { has_frame_size frame.now ≡ true }
-    ensures { (progress : List Progress) → ShowAll lanes.old.items progress
-        → OnOk result (ShowAll lanes.new.items (advance_from 0 processor state.now frame.now progress)) }
+    ensures ok { OnOk result (hand_ins.new.items ≡ handed_to processor hand_in hand_ins.old.items) }
+    ensures err { OnErr result (hand_ins.new.items ≡ hand_ins.old.items) }
 {
     let place = processor as usize;
-    if place >= lanes.len() {
+    if place >= hand_ins.len() {
         return Ok(());
     }
-    lanes[place].carry(alloc, processor, state, frame)
+    hand_ins[place].push(hand_in)
 }
 
-/// A lane for each queue of the interfaces, in order.
-fn lanes_of<'a>(
-    alloc: Global,
-    interfaces: &'a InterfaceList,
-    traced: bool,
-) -> Result<Vec<Lane<'a>>, OutOfMemory>
-    ensures { IfOk result (λ lanes. ShowAll lanes.items (map (idle traced) (queues_of interfaces.now))) }
+/// The packet of this number that a line hands in.
+fn packet_of(alloc: Global, id: u32, line: u32, bytes: &[u8]) -> Result<Packet, OutOfMemory>
+    requires { has_frame_size bytes.now ≡ true }
+    ensures { IfOk result (λ packet. packet ≡ record { id = id; timestamp = 1000000 * line; frame = bytes.now }) }
 {
-    let mut lanes = Vec::new(alloc);
-    for number in 0..interfaces.len() {
-        add_lanes(alloc, &mut lanes, number, interfaces.at(number), traced)?;
-    }
-    Ok(lanes)
-}
-
-/// Adds a lane for each queue of the interface of this number.
-fn add_lanes<'a>(
-    alloc: Global,
-    lanes: &mut Vec<Lane<'a>>,
-    number: u32,
-    interface: &'a Interface,
-    traced: bool,
-) -> Result<(), OutOfMemory>
-    ensures { (queues : List Queue) → ShowAll lanes.old.items (map (idle traced) queues)
-        → OnOk result (ShowAll lanes.new.items (map (idle traced) (queues ++ queues_on number interface.now))) }
-{
-    for queue in 0..interface.queues {
-        let lane = Lane::new(alloc, number, interface.name.as_slice(), queue, traced)?;
-        lanes.push(lane)?;
-    }
-    Ok(())
+    let mut frame = Bytes::new(alloc);
+    frame.append(bytes)?;
+    Ok(Packet {
+        id,
+        timestamp: 1_000_000 * u64::from(line),
+        frame,
+    })
 }

@@ -4,9 +4,8 @@ use Rattle.xdp_tool.specs.Headline.{Touches}
 use Rattle.xdp_tool.proofs.OneTrace.{told-of, touches_made, traced_made}
 use Rattle.xdp_tool.proofs.Ordering.{none-whole}
 use Rattle.xdp_tool.specs.Plan.{plan}
-use Rattle.xdp_tool.specs.Queues.{queues_of}
-use Rattle.xdp_tool.specs.Trace.{trace_text}
-use Rattle.std.proofs.Common.{take}
+use Rattle.xdp_tool.specs.Traversed.{trace_for}
+use Rattle.std.proofs.Common.{take, true}
 use Rattle.xdp_tool.proofs.traced.perform_into.Goals as goal
 
 pub returns-clause-touched : goal.returns-clause-touched
@@ -28,7 +27,7 @@ returns-in-Err-OutOfMemory-clause-ordered g c = λ tells told.
 pub returns-clause-ordered : goal.returns-clause-ordered
 returns-clause-ordered g c = λ tells told.
     let ordered = c.perform-result.ensures.ordered told tells in
-    let traced = traced_made (g.F.Files.told c.args.files.now) (g.F.Files.told c.make_file.new.self) (g.F.Files.told c.perform-result.new.trace.files.now) (g.F.Files.told c.close.new.self) (trace_text (queues_of c.args.script.now.interfaces) (plan c.args.script.now) (take ordered.0 c.perform-result.new.choices)) c.args.name.now c.in-Ok.file c.perform-result.new.trace.file (c.in-Ok.ensures.told_after tells)
+    let traced = traced_made (g.F.Files.told c.args.files.now) (g.F.Files.told c.make_file.new.self) (g.F.Files.told c.perform-result.new.trace.files.now) (g.F.Files.told c.close.new.self) (trace_for true c.args.script.now.interfaces (plan c.args.script.now) (take ordered.0 c.perform-result.new.choices)) c.args.name.now c.in-Ok.file c.perform-result.new.trace.file (c.in-Ok.ensures.told_after tells)
     (ap (λ (s : SinkSetting). s.file) c.perform-result.ensures.same_trace)
     (told-of _ _ _ tells (ap (λ (s : SinkSetting). s.told) c.perform-result.ensures.same_trace)) (c.close.ensures.same_told tells) ordered.2
     in (ordered.0, ordered.1, search (rules, traced))

@@ -1,16 +1,18 @@
-use Rattle.std.proofs.Common.{refl, arith}
-use Rattle.xdp_tool.specs.Queues.{queues_of}
-use Rattle.xdp_tool.proofs.Showing.{length-nothing, progress_from-start}
+use Rattle.std.proofs.Common.{refl, sym, ◌∙◌, arith}
+use Rattle.std.proofs.lemmas.List.{length-replicate}
+use Rattle.xdp_tool.proofs.Walking.{steady-none}
 use Rattle.xdp_tool.proofs.walk.Walk.new.Goals as goal
 
 pub returns-clause-start : goal.returns-clause-start
 returns-clause-start c = record {
-  state = c.in_ok-new.ensures;
-  count = refl;
-  text = c.new-2.ensures;
+  items = c.new.ensures.items;
+  published = sym c.new-2.ensures.items;
+  hand_ins = c.in_ok-no_hand_ins.ensures;
+  packets = refl;
   refused = refl;
-  lanes = rw (progress_from-start c.args.traced 0 (queues_of c.args.interfaces.now)) c.in_ok-lanes_of.ensures;
-  processors = length-nothing (queues_of c.args.interfaces.now);
-  grown = omega arith;
-  legal = λ processor. tt;
+  taken = refl;
+  rising = omega arith;
+  steady = steady-none 0 0 c.args.processors;
+  processors = length-replicate c.args.processors _ ∙ c.requires;
+  open_still = refl;
 }

@@ -1,23 +1,25 @@
-use Rattle.std.proofs.Common.{refl}
-use Rattle.std.proofs.lemmas.Result.{on_ok_weaker}
+use Rattle.std.proofs.Common.{◌≡◌, length, refl, ap, ◌∙◌}
 use Rattle.script_text.specs.declared.outcome.Outcome.TheVariants as outcome
-use Rattle.xdp_tool.specs.Plan.{Item, with_item}
-use Rattle.xdp_tool.specs.Queues.{queues_of}
-use Rattle.xdp_tool.proofs.Carrying.{progress_from-items}
-use Rattle.xdp_tool.proofs.Standing.{items_text-plain, refused-now}
+use Rattle.xdp_tool.specs.declared.item.Item.{Item}
+use Rattle.xdp_tool.proofs.Walking.{count-is, refused-now, rising-push}
 use Rattle.xdp_tool.proofs.walk.Walk.refuse.Goals as goal
 
-pub returns-clause-stands : goal.returns-clause-stands
-returns-clause-stands c = λ past phase stands.
-    let walk = c.args.self.now in
-    let item : Item = record { line = c.args.line; outcome = outcome.Refused c.args.reason; published = phase.published } in
-    on_ok_weaker c.print.result (λ text. rw c.print.ensures.same (record {
-      state = stands.state;
-      count = stands.count;
-      text = rw (items_text-plain walk.interfaces.now past.counted phase.items item refl, ← stands.text) text;
-      refused = refused-now past.refused phase.items item refl;
-      lanes = rw (progress_from-items walk.traced 0 (queues_of walk.interfaces.now) past.counted (with_item c.args.line (outcome.Refused c.args.reason) phase).items phase) stands.lanes;
-      processors = stands.processors;
-      grown = stands.grown;
-      legal = stands.legal;
-    })) c.print.ensures.text
+pub returns-clause-goes : goal.returns-clause-goes
+returns-clause-goes c = λ begun phase at same.
+    let published = phase.work.published in
+    let number : c.count.result ≡ length published = count-is published c.count.result at.taken (c.count.ensures ∙ ap (λ b. b.count) same) in
+    let item : Item = record { line = c.args.line; outcome = outcome.Refused c.args.reason; count = length published } in (
+      refl,
+      record {
+        items = rw (c.in_ok-push.ensures.items, at.items, number) refl;
+        published = at.published;
+        hand_ins = at.hand_ins;
+        packets = at.packets;
+        refused = refused-now begun.refused phase.items item refl;
+        taken = at.taken;
+        rising = rising-push (length begun.published) phase.items (length published) item refl at.rising;
+        steady = at.steady;
+        processors = at.processors;
+        open_still = at.open_still;
+      },
+    )
