@@ -7,3 +7,4 @@ pub mod WideLoads
 pub mod Registers
 pub mod Written
 pub mod Decoded
+pub mod Immediates

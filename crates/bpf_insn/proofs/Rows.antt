@@ -1,5 +1,5 @@
 -- The rows of the table: the forms of all operations, by opcode.
-use Rattle.std.proofs.Common.{◌≡◌, ℕ, zero, suc, Bool, true, false, List, [], ◌∷◌, Some, None, refl, sym, subst, map, arith, cond, Option}
+use Rattle.std.proofs.Common.{◌≡◌, ℕ, zero, suc, Bool, true, false, List, [], ◌∷◌, Some, None, refl, ap, ◌∙◌, sym, subst, map, arith, cond, Option, unwrap_or}
 use Rattle.std.specs.Prelude.{◌==◌, All, Contains, IfSome}
 use Rattle.std.specs.List.{find}
 use Rattle.bpf_insn.specs.declared.operation.Arithmetic.{Arithmetic}
@@ -20,7 +20,7 @@ use Rattle.bpf_insn.specs.declared.operation.Width.TheVariants.{Bits32, Bits64}
 use Rattle.bpf_insn.specs.declared.table.Form.{Form}
 use Rattle.bpf_insn.specs.declared.table.TheConstants.{ROWS}
 use Rattle.bpf_insn.specs.Operation.{opcode_of}
-use Rattle.bpf_insn.specs.Form.{form_of, IsForm}
+use Rattle.bpf_insn.specs.Form.{form_of, half_form, IsForm}
 use Rattle.bpf_insn.specs.Table.{AreApart}
 use Rattle.bpf_insn.proofs.Apart.{apart_from_test}
 
@@ -70,6 +70,11 @@ listed (Store Double Register) = refl
 listed (operation.Atomic Bits32) = refl
 listed (operation.Atomic Bits64) = refl
 listed LoadWide = refl
+
+-- operations of one opcode have one form
+pub one_form : (o p : Operation) → opcode_of o ≡ opcode_of p → form_of o ≡ form_of p
+one_form o p same =
+    ap (λ found. unwrap_or found half_form) (sym (listed o) ∙ ap (λ n. find (λ row. row.opcode == n) ROWS) same ∙ listed p)
 
 -- what a search finds is in the list
 Contains-find : {X : Type 0} (p : X → Bool) (xs : List X) (x : X) → find p xs ≡ Some x → Contains xs x

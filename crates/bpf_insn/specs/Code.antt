@@ -1,10 +1,12 @@
 -- Bytes as instructions.
-use Rattle.std.specs.Prelude.{◌≡◌, ◌≢◌, ◌==◌, ℕ, List, [], ◌∷◌, ◌++◌, length, take, drop, if◌then◌else◌, Bool, true, false, Result, Ok, Err, ⊤}
+use Rattle.std.specs.Prelude.{◌≡◌, ◌≢◌, ◌⊎◌, ◌==◌, ℕ, List, [], ◌∷◌, ◌++◌, length, take, drop, if◌then◌else◌, Bool, true, false, Result, Ok, Err, ⊤}
 use Rattle.std.specs.List.{concat, flat_map, AllByRecursion}
 use Rattle.bpf_insn.specs.declared.decoding.DecodeEnd.{DecodeEnd}
 use Rattle.bpf_insn.specs.declared.decoding.DecodeEnd.TheVariants.{BadInsn, OutOfMemory}
 use Rattle.bpf_insn.specs.declared.insn.Insn.{Insn}
 use Rattle.bpf_insn.specs.declared.operation.Operation.{Operation}
+use Rattle.bpf_insn.specs.declared.operation.Operation.TheVariants.{Call}
+use Rattle.bpf_insn.specs.Operation.{opcode_of}
 use Rattle.bpf_insn.specs.Form.{form_of, half_form, wide_load, Fits, IsListed, Takes}
 use Rattle.bpf_insn.specs.Insn.{slot, half_of}
 
@@ -50,3 +52,7 @@ Continues false (insn ∷ insns) = (insn.half ≡ false) × IsListed insn × Con
 
 abbrev pub IsCode : List Insn → Type 0
 IsCode insns = Continues false insns
+
+-- an instruction that may have any other immediate: a call, a wide load, or its half
+abbrev pub TakesAnyImm : Insn → Type 0
+TakesAnyImm insn = (insn.opcode ≡ opcode_of Call) ⊎ ((insn.opcode ≡ wide_load) ⊎ (insn.half ≡ true))

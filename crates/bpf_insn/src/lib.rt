@@ -4,6 +4,7 @@
 mod decoding;
 mod encoding;
 mod insn;
+pub mod laws;
 mod operation;
 mod table;
 #[cfg(test)]

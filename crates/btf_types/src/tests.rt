@@ -104,34 +104,87 @@ fn blob(alloc: Global, types: &[u32], strings: &[u8]) -> Result<Bytes, Fail> {
     Ok(bytes)
 }
 
+/// The types of a header, these types and these strings.
+fn types_from(alloc: Global, types: &[u32], strings: &[u8]) -> Result<Types, Fail> {
+    let bytes = blob(alloc, types, strings)?;
+    Ok(read_btf(alloc, bytes.as_slice())?)
+}
+
+fn row_of(types: &Types, number: u32) -> Option<TypeRow> {
+    if number == 0 || types.len() < number {
+        return None;
+    }
+    Some(*types.type_at(number))
+}
+
+/// A part of a type by its place in the type, and whether it has this name.
+fn part_of(types: &Types, number: u32, place: u32, name: &[u8]) -> Option<(Part, bool)> {
+    if number == 0 || types.len() < number {
+        return None;
+    }
+    let row = types.type_at(number);
+    if row.count <= place {
+        return None;
+    }
+    let part = types.part(row.first + place);
+    Some((*part, types.name_of(part.name) == name))
+}
+
 #[test]
 fn types_of_an_object(rt: HostRuntime) -> Result<(), Fail> {
-    let bytes = blob(rt.alloc(), &TYPES, STRINGS)?;
-    let types = read_btf(rt.alloc(), bytes.as_slice())?;
+    let types = types_from(rt.alloc(), &TYPES, STRINGS)?;
     assert_eq!(rt; types.len(), 14);
-    let row = types.type_at(12);
-    assert_eq!(rt; row.kind, kind::STRUCT);
-    assert_eq!(rt; row.size_or_target, 32);
-    assert_eq!(rt; row.first, 5);
-    assert_eq!(rt; row.count, 4);
-    let part = types.part(6);
-    assert_eq!(rt; types.name_of(part.name), b"max_entries".as_slice());
-    assert_eq!(rt; part.target, 10);
-    assert_eq!(rt; part.place, 64);
-    let array = types.type_at(9);
-    assert_eq!(rt; array.first, 4);
-    let elements = types.part(array.first);
+    let structure = TypeRow {
+        kind: kind::STRUCT,
+        name: 0,
+        size_or_target: 32,
+        first: 5,
+        count: 4,
+    };
+    assert_eq!(rt; row_of(&types, 12), Some(structure));
+    let array = TypeRow {
+        kind: kind::ARRAY,
+        name: 0,
+        size_or_target: 0,
+        first: 4,
+        count: 1,
+    };
+    assert_eq!(rt; row_of(&types, 9), Some(array));
+    Ok(())
+}
+
+#[test]
+fn parts_of_types(rt: HostRuntime) -> Result<(), Fail> {
+    let types = types_from(rt.alloc(), &TYPES, STRINGS)?;
+    let member = Part {
+        name: 38,
+        target: 10,
+        place: 64,
+    };
     assert_eq!(rt;
-        *elements,
-        Part {
-            name: 0,
-            target: 1,
-            place: 2
-        }
+        part_of(&types, 12, 1, b"max_entries"),
+        Some((member, true))
     );
-    assert_eq!(rt; types.section_vars(b".maps"), Some(14));
-    assert_eq!(rt; types.section_vars(b".xdp_run_config"), Some(6));
-    assert_eq!(rt; types.section_vars(b"hits"), None);
+    let elements = Part {
+        name: 0,
+        target: 1,
+        place: 2,
+    };
+    assert_eq!(rt; part_of(&types, 9, 0, b""), Some((elements, true)));
+    Ok(())
+}
+
+#[test]
+fn sections_by_name(rt: HostRuntime) -> Result<(), Fail> {
+    let types = types_from(rt.alloc(), &TYPES, STRINGS)?;
+    let rows: [(&[u8], Option<u32>); 3] = [
+        (b".maps", Some(14)),
+        (b".xdp_run_config", Some(6)),
+        (b"hits", None),
+    ];
+    for (name, number) in rows {
+        assert_eq!(rt; types.section_vars(name), number);
+    }
     Ok(())
 }
 
@@ -149,6 +202,25 @@ const BREAKS: [(usize, u8, u8, u64); 10] = [
     (72, 15, 11, 64),
 ];
 
+/// Why bytes are refused.
+fn end_of(alloc: Global, bytes: &[u8]) -> Option<BtfEnd> {
+    read_btf(alloc, bytes).err()
+}
+
+/// Why bytes are refused once one of them is changed.
+fn end_with(
+    alloc: Global,
+    whole: &[u8],
+    place: usize,
+    value: u8,
+) -> Result<Option<BtfEnd>, OutOfMemory> {
+    let mut bytes = Bytes::new(alloc);
+    for (at, byte) in whole.iter().enumerate() {
+        bytes.push(if at == place { value } else { *byte })?;
+    }
+    Ok(end_of(alloc, bytes.as_slice()))
+}
+
 #[test]
 fn each_rule_once(rt: HostRuntime) -> Result<(), Fail> {
     let whole = blob(rt.alloc(), &TYPES, STRINGS)?;
@@ -156,20 +228,16 @@ fn each_rule_once(rt: HostRuntime) -> Result<(), Fail> {
     assert_eq!(rt; whole.len(), 395);
     let short = BadBtf { offset: 0, rule: 1 };
     assert_eq!(rt;
-        read_btf(rt.alloc(), &whole[..23]).err(),
+        end_of(rt.alloc(), &whole[..23]),
         Some(BtfEnd::BadBtf(short))
     );
-    for (place, value, rule, offset) in BREAKS {
-        let mut bytes = Bytes::new(rt.alloc());
-        bytes.append(&whole[..place])?;
-        bytes.push(value)?;
-        bytes.append(&whole[place + 1..])?;
-        let bad = BadBtf { offset, rule };
-        assert_eq!(rt;
-            read_btf(rt.alloc(), bytes.as_slice()).err(),
-            Some(BtfEnd::BadBtf(bad)),
-            "B{rule}"
-        );
+    for (place, value, rule, offset) in &BREAKS {
+        let bad = BadBtf {
+            offset: *offset,
+            rule: *rule,
+        };
+        let end = end_with(rt.alloc(), whole, *place, *value)?;
+        assert_eq!(rt; end, Some(BtfEnd::BadBtf(bad)), "B{rule}");
     }
     Ok(())
 }
@@ -291,13 +359,20 @@ const SIZES: [Size; 20] = [
     Size::Unsized,
 ];
 
+fn size_of(types: &Types, number: u32) -> Option<Size> {
+    if types.len() < number {
+        return None;
+    }
+    Some(types.size_of(number))
+}
+
 #[test]
 fn sizes(rt: HostRuntime) -> Result<(), Fail> {
-    let bytes = blob(rt.alloc(), &SIZED, b"\0")?;
-    let types = read_btf(rt.alloc(), bytes.as_slice())?;
+    let types = types_from(rt.alloc(), &SIZED, b"\0")?;
     assert_eq!(rt; types.len(), 19);
     for (number, size) in SIZES.iter().enumerate() {
-        assert_eq!(rt; types.size_of(number as u32), *size, "type {number}");
+        let found = size_of(&types, u32::try_from(number)?);
+        assert_eq!(rt; found, Some(*size), "type {number}");
     }
     Ok(())
 }

@@ -5,6 +5,7 @@ pub mod Section
 pub mod Names
 pub mod Header
 pub mod Symbol
+pub mod SymbolKind
 pub mod Reloc
 pub mod Object
 pub mod RelocTables

@@ -24,6 +24,9 @@ em_bpf = 247
 abbrev pub sht_null : ℕ
 sht_null = 0
 
+abbrev pub sht_progbits : ℕ
+sht_progbits = 1
+
 abbrev pub sht_symtab : ℕ
 sht_symtab = 2
 
@@ -45,6 +48,10 @@ shf_execinstr = 4
 
 abbrev pub shf_compressed : ℕ
 shf_compressed = 0x800
+
+-- symbol types: a function
+abbrev pub stt_func : ℕ
+stt_func = 2
 
 -- the first of the section numbers that name no section
 abbrev pub shn_loreserve : ℕ

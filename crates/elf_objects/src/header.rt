@@ -9,7 +9,8 @@ ghost use Rattle.elf_objects.specs.Header.{header_rules};
 
 use crate::bad_elf::{BadElf, broken_at, check_rule};
 use crate::fields::{u16_at, u32_at, u64_at};
-use crate::section::{RESERVED, STRTAB, is_of_kind, name_section, passes_end};
+use crate::section::{RESERVED, is_of_kind, name_section, passes_end};
+use crate::section_kind::STRTAB;
 
 /// The bytes 0x7f `E` `L` `F`, as the number that they are.
 const MAGIC: u32 = 0x464c_457f;

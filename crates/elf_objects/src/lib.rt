@@ -11,6 +11,8 @@ mod object;
 mod reloc;
 mod reloc_tables;
 mod section;
+pub mod section_flag;
+pub mod section_kind;
 mod symbol;
 
 pub use bad_elf::{BadElf, ObjectEnd};

@@ -5,7 +5,7 @@ ghost use Rattle.std.specs.Result.{result_err};
 ghost use Rattle.elf_objects.specs.Numbers.{sht_strtab, shn_loreserve};
 ghost use Rattle.elf_objects.specs.Breaks.{first_broken};
 ghost use Rattle.elf_objects.specs.Section.{HasHeaders, section_count, section, name_section, is_of_kind};
-ghost use Rattle.elf_objects.specs.Symbol.{symbol_count, symbol};
+ghost use Rattle.elf_objects.specs.Symbol.{symbol_count, symbol, symbol_place};
 ghost use Rattle.elf_objects.specs.Object.{first_break, IsBroken, IsFirstBreak, table_rules, sections, symbols, relocs, content, section_name, symbol_name};
 
 use crate::bad_elf::{BadElf, ObjectEnd, check_rule};
@@ -13,11 +13,11 @@ use crate::header::check_header;
 use crate::names::{name_at, section_names, unnamed_section};
 use crate::reloc::{Reloc, bad_reloc_table, missing_symbol};
 use crate::reloc_tables::RelocTables;
-use crate::section::{
-    REL, Section, compressed_section, content_of, read_sections, section_past_end,
-};
+use crate::section::{Section, compressed_section, content_of, read_sections, section_past_end};
+use crate::section_kind::REL;
 use crate::symbol::{
-    Symbol, astray_symbol, bad_symbol_table, read_symbols, symbol_names, unnamed_symbol,
+    Symbol, astray_symbol, bad_symbol_table, read_symbols, symbol_names, symbol_section,
+    unnamed_symbol,
 };
 use lists::OutOfMemory;
 use std::alloc::Global;
@@ -171,5 +171,14 @@ impl Object<'_> {
         ensures { result.now ≡ symbol_name self.now symbol }
     {
         name_at(self.symbol_names, self.symbol(symbol).name as usize)
+    }
+
+    /// Where a symbol stands in the file.
+    pub fn symbol_place(&self, symbol: u32) -> u64
+        requires { symbol < length (symbols self.now) }
+        ensures { result ≡ symbol_place self.now symbol }
+    {
+        let _known = self.symbol(symbol);
+        symbol_section(self.file).offset + 24 * u64::from(symbol)
     }
 }

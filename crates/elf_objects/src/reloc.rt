@@ -8,13 +8,10 @@ ghost use Rattle.elf_objects.specs.Symbol.{symbol_count};
 ghost use Rattle.elf_objects.specs.Reloc.{reloc_at, lacks_symbol, is_bad_reloc_table, bad_reloc_table, reloc_tests, missing_symbol};
 
 use crate::fields::{u32_at, u64_at};
-use crate::section::{
-    REL, RELA, SYMTAB, entry_size, header_place, is_of_kind, section_at, section_count,
-};
+use crate::section::{entry_size, header_place, is_of_kind, section_at, section_count};
+use crate::section_flag::EXECINSTR;
+use crate::section_kind::{REL, RELA, SYMTAB};
 use crate::symbol::symbol_section;
-
-/// Section flag: the bytes are instructions (SHF_EXECINSTR).
-const EXECINSTR: u64 = 4;
 
 /// A relocation: what is changed stands at an offset in the section that the relocations are for.
 #[derive(Clone, Copy, Debug, PartialEq, Eq)]

@@ -8,7 +8,8 @@ ghost use Rattle.elf_objects.specs.Reloc.{relocs_at};
 ghost use Rattle.elf_objects.specs.RelocTables.{has_relocs_from, reloc_table, reloc_tables};
 
 use crate::reloc::{Reloc, reloc_at};
-use crate::section::{REL, Section};
+use crate::section::Section;
+use crate::section_kind::REL;
 use lists::OutOfMemory;
 use std::alloc::Global;
 use std::marker::Model;

@@ -6,34 +6,22 @@ ghost use Rattle.elf_objects.specs.Section.{HasHeaders, section_count, name_sect
 ghost use Rattle.elf_objects.specs.Object.{sections};
 
 use crate::fields::{u16_at, u32_at, u64_at};
+use crate::section_flag::COMPRESSED;
+use crate::section_kind::{NOBITS, NULL};
 use lists::OutOfMemory;
 use std::alloc::Global;
 
-// Section types: SHT_NULL, SHT_SYMTAB, SHT_STRTAB, SHT_RELA, SHT_NOBITS and SHT_REL.
-pub(crate) const NULL: u32 = 0;
-
-pub(crate) const SYMTAB: u32 = 2;
-
-pub(crate) const STRTAB: u32 = 3;
-
-pub(crate) const RELA: u32 = 4;
-
-pub(crate) const NOBITS: u32 = 8;
-
-pub(crate) const REL: u32 = 9;
-
 /// From here on a section's number names no section (SHN_LORESERVE).
 pub(crate) const RESERVED: u16 = 0xff00;
-
-/// Section flag: the bytes are compressed (SHF_COMPRESSED).
-const COMPRESSED: u64 = 0x800;
 
 /// A section's header, without its address, alignment and entry size.
 #[derive(Clone, Copy, Debug, Default, PartialEq, Eq)]
 pub struct Section {
     /// Where its name begins in the section that holds the names.
     pub name: u32,
+    /// One of the numbers of `section_kind`, or another.
     pub kind: u32,
+    /// The bits of `section_flag`, and others.
     pub flags: u64,
     pub offset: u64,
     pub size: u64,

@@ -10,9 +10,9 @@ ghost use Rattle.elf_objects.specs.Object.{symbols};
 use crate::fields::{u16_at, u32_at, u64_at};
 use crate::names::names_end;
 use crate::section::{
-    RESERVED, STRTAB, SYMTAB, Section, content_at, entry_size, header_place, is_of_kind,
-    section_at, section_count,
+    RESERVED, Section, content_at, entry_size, header_place, is_of_kind, section_at, section_count,
 };
+use crate::section_kind::{STRTAB, SYMTAB};
 use lists::OutOfMemory;
 use std::alloc::Global;
 
@@ -26,6 +26,20 @@ pub struct Symbol {
     pub section: u16,
     pub value: u64,
     pub size: u64,
+}
+
+/// The type of a symbol that is a function (STT_FUNC).
+const FUNCTION: u8 = 2;
+
+impl Symbol {
+    ghost use Rattle.elf_objects.specs.SymbolKind.{is_function};
+
+    /// Whether it names a function.
+    pub fn is_function(&self) -> bool
+        ensures { result ≡ is_function self.now }
+    {
+        self.info % 16 == FUNCTION
+    }
 }
 
 /// The number of the first section of type SYMTAB.

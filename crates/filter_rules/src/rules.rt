@@ -49,6 +49,15 @@ impl Rules {
         })
     }
 
+    /// The same rows with the room of all that there may be, from the memory that these rows take theirs from.
+    pub fn copy(&self) -> Result<Self, OutOfMemory>
+        ensures { IfOk result (λ copy. copy ≡ self.now) }
+    {
+        let mut rows = Vec::with_capacity(*self.rows.allocator(), ROWS as usize)?;
+        rows.extend_from_slice(&self.rows)?;
+        Ok(Rules { rows })
+    }
+
     pub fn len(&self) -> u32
         ensures value { result ≡ length self.now }
         ensures within { result ≤ 4096 }

@@ -1,4 +1,4 @@
-ghost use Rattle.std.specs.Prelude.{◌≡◌, ℕ, ◌+◌, ◌^◌, ◌<◌, ◌≤◌, List, [], ◌∷◌, ◌++◌, length, slice_get, Some, OnOk, OnErr};
+ghost use Rattle.std.specs.Prelude.{◌≡◌, ℕ, ◌+◌, ◌^◌, ◌<◌, ◌≤◌, List, [], ◌∷◌, ◌++◌, length, slice_get, slice_set, Some, OnOk, OnErr};
 
 use crate::memory::OutOfMemory;
 use std::alloc::Global;
@@ -59,5 +59,15 @@ impl<T> List<T> {
         ensures { slice_get self.now place ≡ Some result.now }
     {
         &self.items[place as usize]
+    }
+
+    /// Puts an item in the place of another.
+    pub fn set(&mut self, place: u32, item: T)
+    where
+        T: Drop,
+        requires { place < length self.old }
+        ensures { self.new ≡ slice_set self.old place item }
+    {
+        self.items[place as usize] = item;
     }
 }

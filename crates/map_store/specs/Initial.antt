@@ -7,10 +7,14 @@ use Rattle.map_store.specs.declared.spec.MapKind.TheVariants.{Array}
 use Rattle.map_store.specs.Spec.{spec_rule, slot_size}
 use Rattle.map_store.specs.Slots.{Map, Entry, is_array}
 
--- a spec keeps the rules, and its initial content is empty or the value of the one entry of a shared array
+-- the initial content is empty, or the value of the one entry of a shared array
+abbrev pub HasInitial : MapSpec → Type 0
+HasInitial spec = (spec.initial ≡ []) ⊎ ((spec.kind ≡ Array) × (spec.max_entries ≡ 1) × (length spec.initial ≡ spec.value_size))
+
+-- a spec keeps the rules, and has such content
 pub record IsMakeable (spec : MapSpec) : Type 0 where
   pub rules : spec_rule spec ≡ None
-  pub initial : (spec.initial ≡ []) ⊎ ((spec.kind ≡ Array) × (spec.max_entries ≡ 1) × (length spec.initial ≡ spec.value_size))
+  pub initial : HasInitial spec
 
 -- at most 32 specs, whose slots take at most 4 MiB
 pub record AreMakeable (specs : List MapSpec) : Type 0 where

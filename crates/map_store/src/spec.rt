@@ -1,7 +1,8 @@
-ghost use Rattle.std.specs.Prelude.{◌≡◌};
+ghost use Rattle.std.specs.Prelude.{◌≡◌, ◌↔◌, IsTrue, IfOk};
 ghost use Rattle.map_store.specs.Spec.{spec_rule, rounded};
 
-use lists::Bytes;
+use lists::{Bytes, OutOfMemory};
+use std::alloc::Global;
 
 /// How a map is kept. Programs read the shared kinds, `Hash` and `Array`; each processor has its own map of the others.
 #[derive(Clone, Copy, Debug, PartialEq, Eq)]
@@ -39,6 +40,34 @@ pub struct MapSpec {
     pub value_size: u32,
     pub max_entries: u32,
     pub initial: Bytes,
+}
+
+impl MapSpec {
+    /// The same spec, with memory of its own.
+    pub fn copy(&self, alloc: Global) -> Result<MapSpec, OutOfMemory>
+        ensures { IfOk result (λ spec. spec ≡ self.now) }
+    {
+        let mut initial = Bytes::new(alloc);
+        initial.append(self.initial.as_slice())?;
+        Ok(MapSpec {
+            kind: self.kind,
+            key_size: self.key_size,
+            value_size: self.value_size,
+            max_entries: self.max_entries,
+            initial,
+        })
+    }
+
+    /// Whether both make the same map.
+    pub fn equals(&self, other: &MapSpec) -> bool
+        ensures { IsTrue result ↔ (self.now ≡ other.now) }
+    {
+        self.kind == other.kind
+            && self.key_size == other.key_size
+            && self.value_size == other.value_size
+            && self.max_entries == other.max_entries
+            && self.initial.as_slice() == other.initial.as_slice()
+    }
 }
 
 /// The first of the rules 5 to 8 that the spec breaks. No kind of this type breaks rule 5.

@@ -1,6 +1,7 @@
 pub mod Counts
 pub mod HitRows
 pub mod HitSums
+pub mod Joined
 pub mod Judging
 pub mod Members
 pub mod Rules

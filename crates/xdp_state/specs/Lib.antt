@@ -4,9 +4,14 @@ pub mod Capped
 pub mod Carrier
 pub mod Hits
 pub mod Interfaces
+pub mod Legal
 pub mod Members
 pub mod Own
 pub mod OwnView
+pub mod RunSums
 pub mod State
 pub mod Sums
+pub mod SumsView
 pub mod Traversal
+pub mod Traversals
+pub mod Work

@@ -1,9 +1,11 @@
 -- The sums over the packets that were carried.
-use Rattle.std.specs.Prelude.{ℕ, ◌+◌, ◌==◌, List, [], ◌∷◌, zero, suc, max, count_by, sum_by, if◌then◌else◌}
+use Rattle.std.specs.Prelude.{ℕ, ◌+◌, ◌==◌, List, [], ◌∷◌, ◌++◌, zero, suc, max, map, replicate, count_by, sum_by, if◌then◌else◌}
 use Rattle.std.specs.List.{filter_map, flat_map}
 use Rattle.xio.specs.declared.action.Action.{Action}
 use Rattle.xio.specs.Action.{number}
 use Rattle.xdp_state.specs.Capped.{capped}
+use Rattle.xdp_state.specs.RunSums.{RunSums}
+use Rattle.xdp_state.specs.declared.carried.Carried.{Carried}
 use Rattle.xdp_state.specs.declared.hits.HitRow.{HitRow}
 use Rattle.xdp_state.specs.declared.tally.Tally.{Tally}
 use Rattle.xdp_state.specs.declared.traversal.Visit.{Visit}
@@ -59,3 +61,37 @@ tally_of carried = record {
   packets = by_action (λ action. capped (packets_with action carried));
   bytes = by_action (λ action. capped (bytes_with action carried));
 }
+
+-- what sums count of a packet that was carried, and of all packets of some processors
+abbrev pub counted : Carried → Counted
+counted packet = record {
+  verdict = packet.traversal.verdict;
+  handed = packet.handed;
+  rules = rules_of packet.traversal.visits;
+}
+
+abbrev pub packets_of : List (List Carried) → List Counted
+packets_of carried = flat_map (map counted) carried
+
+-- What was carried in the phases that have ended: by processor, and all packets, by phase and then by processor.
+pub record Past : Type 0 where
+  pub by_processor : List (List Counted)
+  pub all : List Counted
+
+abbrev pub no_past : ℕ → Past
+no_past processors = record { by_processor = replicate processors []; all = [] }
+
+-- each processor's packets behind those that it had carried before
+abbrev pub joined : List (List Counted) → List (List Carried) → List (List Counted)
+joined befores [] = befores
+joined [] (packets ∷ carried) = []
+joined (before ∷ more) (packets ∷ carried) = (before ++ map counted packets) ∷ joined more carried
+
+abbrev pub past_with : Past → List (List Carried) → Past
+past_with past carried = record {
+  by_processor = joined past.by_processor carried;
+  all = past.all ++ packets_of carried;
+}
+
+abbrev pub sums_of : Past → RunSums
+sums_of past = record { by_processor = map tally_of past.by_processor; all = tally_of past.all }

@@ -3,6 +3,7 @@
 
 mod answer;
 mod attachment;
+mod carried;
 mod change;
 mod choices;
 mod command;
@@ -10,7 +11,10 @@ mod hits;
 mod interface;
 mod judgement;
 mod own;
+mod packet;
+mod plan;
 mod state;
+mod sums;
 mod tally;
 #[cfg(test)]
 mod tests;
@@ -18,6 +22,7 @@ mod traversal;
 
 pub use answer::judge;
 pub use attachment::{Attachment, Kind, Mode};
+pub use carried::{Carried, CarriedList};
 pub use change::Change;
 pub use choices::{Choices, CountList, NeedsList};
 pub use command::Command;
@@ -25,6 +30,9 @@ pub use hits::{HitList, HitRow};
 pub use interface::{Interface, InterfaceList};
 pub use judgement::{Judgement, Reason};
 pub use own::{Own, traverse};
+pub use packet::{HandIn, HandInList, Packet};
+pub use plan::{Plan, PlanPhase};
 pub use state::State;
+pub use sums::Sums;
 pub use tally::Tally;
 pub use traversal::{Traversal, Visit, VisitList};

@@ -4,6 +4,7 @@ ghost use Rattle.xdp_state.specs.Traversal.{visit, visits_of, deciding, traversa
 ghost use Rattle.xdp_state.specs.Own.{IsPrepared};
 
 use crate::attachment::{Attachment, Kind};
+use crate::packet::Packet;
 use crate::state::State;
 use crate::traversal::{Traversal, Visit};
 use filter_rules::{FilterEnd, Rules};
@@ -114,13 +115,12 @@ impl Own {
     }
 }
 
-/// Takes a frame of 14 to 15,872 bytes through its interface's chain; `Own::trip` tells the way.
-pub fn traverse(state: &State, own: &mut Own, frame: &[u8])
-    requires prepared { IsPrepared own.old state.now }
-    requires least { 14 ≤ length frame.now }
-    requires most { length frame.now ≤ 15872 }
-    ensures { own.new ≡ record own.old { trip = Some (traversal state.now own.old.interface frame.now) } }
+/// Takes a packet through its interface's chain; `Own::trip` tells the way.
+pub fn traverse(state: &State, own: &mut Own, packet: &Packet)
+    requires { IsPrepared own.old state.now }
+    ensures { own.new ≡ record own.old { trip = Some (traversal state.now own.old.interface packet.now.frame) } }
 {
+    let frame = packet.frame.as_slice();
     own.visits.clear();
     own.frame.clear();
     let Ok(()) = own.frame.extend_from_slice(frame) else {
@@ -208,6 +208,16 @@ mod tests {
     use filter_rules::{Policy, RuleKey, features};
     use std::test::Fail;
 
+    fn packet(alloc: Global, bytes: &[u8; 14]) -> Result<Packet, OutOfMemory> {
+        let mut frame = Bytes::new(alloc);
+        frame.append(bytes)?;
+        Ok(Packet {
+            id: 0,
+            timestamp: 0,
+            frame,
+        })
+    }
+
     #[test]
     fn drops_the_frame_that_a_rule_names(rt: HostRuntime) -> Result<(), Fail> {
         let mut state = State::new(rt.alloc())?;
@@ -236,7 +246,7 @@ mod tests {
         for (last, kind, action, rule) in rows {
             let frame = [2, 0, 0, 0, 0, last, 2, 0, 0, 0, 0, 2, kind[0], kind[1]];
             own.prepare(&state)?;
-            traverse(&state, &mut own, &frame);
+            traverse(&state, &mut own, &packet(rt.alloc(), &frame)?);
             let visit = Visit {
                 number: 1,
                 action,

@@ -11,6 +11,8 @@ use std::alloc::Global;
 use std::marker::Model;
 use xio::OutOfMemory;
 
+mod copy;
+
 /// How many interfaces there may be.
 pub const INTERFACES: u32 = 8;
 

@@ -1,5 +1,4 @@
 //! The answers to commands, and a filter's whole life.
-
 ghost use Rattle.std.specs.Prelude.{◌≡◌};
 ghost use Rattle.xdp_state.specs.Answer.{rule_fits};
 
@@ -12,6 +11,16 @@ use std::alloc::Global;
 use std::test::Fail;
 use xio::OutOfMemory;
 
+/// A command in a table, with the letter of its interface.
+#[derive(Clone, Copy)]
+enum Asked {
+    Load(u8, u8),
+    Unload(u8, bool),
+    Set(RuleKey, u8),
+    Clear(RuleKey, u8),
+    Status,
+}
+
 const PORT: RuleKey = RuleKey {
     kind: RuleKind::Port,
     value: 53,
@@ -22,20 +31,80 @@ const ETHER: RuleKey = RuleKey {
     value: 0x0200_0000_0001,
 };
 
-fn bytes(alloc: Global, text: &[u8]) -> Result<Bytes, OutOfMemory> {
-    let mut bytes = Bytes::new(alloc);
-    bytes.append(text)?;
-    Ok(bytes)
+const ADDRESS: RuleKey = RuleKey {
+    kind: RuleKind::Ip4,
+    value: 0x0A00_0001,
+};
+
+fn name(alloc: Global, letter: u8) -> Result<Bytes, OutOfMemory> {
+    let mut name = Bytes::new(alloc);
+    name.push(letter)?;
+    Ok(name)
 }
 
 /// The interfaces a and b.
 fn interfaces(alloc: Global) -> Result<InterfaceList, OutOfMemory> {
     let mut list = InterfaceList::new(alloc);
-    for name in [b"a", b"b"] {
-        let name = bytes(alloc, name)?;
+    for letter in [b'a', b'b'] {
+        let name = name(alloc, letter)?;
         list.push(Interface { name, queues: 1 })?;
     }
     Ok(list)
+}
+
+fn command(alloc: Global, asked: Asked) -> Result<Command, OutOfMemory> {
+    match asked {
+        Asked::Load(letter, features) => Ok(Command::FilterLoad {
+            interface: name(alloc, letter)?,
+            mode: Mode::Skb,
+            policy: Policy::Allow,
+            features,
+        }),
+        Asked::Unload(letter, keep) => Ok(Command::FilterUnload {
+            interface: name(alloc, letter)?,
+            keep,
+        }),
+        Asked::Set(key, flags) => Ok(rule(key, flags, false)),
+        Asked::Clear(key, flags) => Ok(rule(key, flags, true)),
+        Asked::Status => Ok(Command::FilterStatus),
+    }
+}
+
+fn rule(key: RuleKey, flags: u8, remove: bool) -> Command {
+    Command::FilterRule { key, flags, remove }
+}
+
+/// Whether a rule's flags are some flags of its kind.
+fn rule_fits(command: &Command) -> bool
+    ensures { result ≡ rule_fits command.now }
+{
+    match command {
+        Command::FilterRule { key, flags, .. } => *flags != 0 && *flags <= key.kind.all_flags(),
+        _ => true,
+    }
+}
+
+/// The answer after some changes, or none where a rule's flags aren't of its kind.
+fn answer(
+    alloc: Global,
+    changes: &[Change],
+    asked: Asked,
+) -> Result<Option<Judgement>, OutOfMemory> {
+    let names = interfaces(alloc)?;
+    let state = state_after(alloc, changes)?;
+    let command = command(alloc, asked)?;
+    if !rule_fits(&command) {
+        return Ok(None);
+    }
+    Ok(Some(judge(&state, &names, &command)))
+}
+
+fn state_after(alloc: Global, changes: &[Change]) -> Result<State, OutOfMemory> {
+    let mut state = State::new(alloc)?;
+    for change in changes {
+        state.absorb(change);
+    }
+    Ok(state)
 }
 
 fn attach(interface: u32, features: u8) -> Change {
@@ -52,213 +121,140 @@ fn attach(interface: u32, features: u8) -> Change {
     }
 }
 
-fn load(interface: Bytes, features: u8) -> Command {
-    Command::FilterLoad {
-        interface,
-        mode: Mode::Skb,
-        policy: Policy::Allow,
-        features,
-    }
-}
-
-fn rule(key: RuleKey, flags: u8, remove: bool) -> Command {
-    Command::FilterRule { key, flags, remove }
-}
-
-fn detach(interface: u32, number: u32, clear_rules: bool) -> Judgement {
-    Judgement::Accepted(Change::Detach {
+fn detach(interface: u32, number: u32, clear_rules: bool) -> Change {
+    Change::Detach {
         interface,
         number,
         clear_rules,
-    })
-}
-
-/// Whether a rule's flags are some flags of its kind.
-fn rule_fits(command: &Command) -> bool
-    ensures { result ≡ rule_fits command.now }
-{
-    match command {
-        Command::FilterRule { key, flags, .. } => *flags != 0 && *flags <= key.kind.all_flags(),
-        _ => true,
     }
 }
 
-fn answer(state: &State, names: &InterfaceList, command: &Command) -> Option<Judgement> {
-    if !rule_fits(command) {
-        return None;
-    }
-    Some(judge(state, names, command))
+/// a's filter asks for TCP, b's for UDP and Ethernet, a rule names the port of TCP senders, and b's filter leaves.
+fn life() -> [Change; 4] {
+    [
+        attach(0, features::TCP),
+        attach(1, features::UDP | features::ETHERNET),
+        Change::SetRule {
+            key: PORT,
+            flags: 1,
+        },
+        detach(1, 2, false),
+    ]
 }
 
 #[test]
-fn answers_with_no_filter(rt: HostRuntime) -> Result<(), Fail> {
-    let alloc = rt.alloc();
-    let state = State::new(alloc)?;
-    let names = interfaces(alloc)?;
+fn answers_by_what_is_attached(rt: HostRuntime) -> Result<(), Fail> {
+    let changes = life();
     let refused = Judgement::Refused;
-    let rows = [
-        (load(bytes(alloc, b"c")?, 31), refused(Reason::NoInterface)),
-        (
-            load(bytes(alloc, b"b")?, 3),
-            Judgement::Accepted(attach(1, 3)),
-        ),
-        (rule(PORT, 4, false), refused(Reason::FilterNotThere)),
-        (rule(PORT, 4, true), refused(Reason::FilterNotThere)),
-        (Command::FilterStatus, Judgement::Shown),
-    ];
-    for (command, want) in &rows {
-        assert_eq!(rt; answer(&state, &names, command), Some(*want));
-    }
-    Ok(())
-}
-
-/// a's filter asks for TCP, b's for UDP and Ethernet, and a rule names the port of TCP senders.
-fn two_filters(alloc: Global) -> Result<State, OutOfMemory> {
-    let mut state = State::new(alloc)?;
-    state.absorb(&attach(0, features::TCP));
-    state.absorb(&attach(1, features::UDP | features::ETHERNET));
-    state.absorb(&Change::SetRule {
-        key: PORT,
-        flags: 1,
-    });
-    Ok(state)
-}
-
-fn unload(interface: Bytes, keep: bool) -> Command {
-    Command::FilterUnload { interface, keep }
-}
-
-#[test]
-fn answers_with_two_filters(rt: HostRuntime) -> Result<(), Fail> {
-    let alloc = rt.alloc();
-    let mut state = two_filters(alloc)?;
-    let names = interfaces(alloc)?;
-    let refused = Judgement::Refused;
+    let accepted = Judgement::Accepted;
     let set = |key, flags| Judgement::Accepted(Change::SetRule { key, flags });
     let clear = |key, flags| Judgement::Accepted(Change::ClearRule { key, flags });
-    let address = RuleKey {
-        kind: RuleKind::Ip4,
-        value: 0x0A00_0001,
-    };
+    // after how many of the changes, the command, and its answer
     let rows = [
-        (load(bytes(alloc, b"a")?, 31), refused(Reason::FilterThere)),
+        (0, Asked::Load(b'c', 31), refused(Reason::NoInterface)),
+        (0, Asked::Load(b'b', 3), accepted(attach(1, 3))),
+        (0, Asked::Set(PORT, 4), refused(Reason::FilterNotThere)),
+        (0, Asked::Clear(PORT, 4), refused(Reason::FilterNotThere)),
+        (0, Asked::Status, Judgement::Shown),
+        (3, Asked::Load(b'a', 31), refused(Reason::FilterThere)),
+        (3, Asked::Unload(b'c', false), refused(Reason::NoInterface)),
+        (3, Asked::Unload(b'a', false), accepted(detach(0, 1, false))),
+        (3, Asked::Unload(b'b', true), accepted(detach(1, 2, false))),
+        (3, Asked::Set(PORT, 3), set(PORT, 3)),
+        (3, Asked::Set(ETHER, 1), set(ETHER, 1)),
+        (3, Asked::Set(ADDRESS, 2), refused(Reason::FeatureMissing)),
+        (3, Asked::Clear(PORT, 2), refused(Reason::NoSuchRule)),
+        (3, Asked::Clear(PORT, 3), clear(PORT, 3)),
         (
-            unload(bytes(alloc, b"c")?, false),
-            refused(Reason::NoInterface),
-        ),
-        (unload(bytes(alloc, b"a")?, false), detach(0, 1, false)),
-        (unload(bytes(alloc, b"b")?, true), detach(1, 2, false)),
-        (rule(PORT, 3, false), set(PORT, 3)),
-        (rule(ETHER, 1, false), set(ETHER, 1)),
-        (rule(address, 2, false), refused(Reason::FeatureMissing)),
-        (rule(PORT, 2, true), refused(Reason::NoSuchRule)),
-        (rule(PORT, 3, true), clear(PORT, 3)),
-    ];
-    for (command, want) in &rows {
-        assert_eq!(rt; answer(&state, &names, command), Some(*want));
-    }
-
-    state.absorb(&Change::Detach {
-        interface: 1,
-        number: 2,
-        clear_rules: false,
-    });
-    let rows = [
-        (
-            unload(bytes(alloc, b"b")?, false),
+            4,
+            Asked::Unload(b'b', false),
             refused(Reason::FilterNotThere),
         ),
-        (unload(bytes(alloc, b"a")?, true), detach(0, 1, false)),
-        (unload(bytes(alloc, b"a")?, false), detach(0, 1, true)),
-        (rule(PORT, 3, false), refused(Reason::FeatureMissing)),
+        (4, Asked::Unload(b'a', true), accepted(detach(0, 1, false))),
+        (4, Asked::Unload(b'a', false), accepted(detach(0, 1, true))),
+        (4, Asked::Set(PORT, 3), refused(Reason::FeatureMissing)),
     ];
-    for (command, want) in &rows {
-        assert_eq!(rt; answer(&state, &names, command), Some(*want));
+    for (after, asked, want) in rows {
+        let given = answer(rt.alloc(), &changes[..after.min(4)], asked)?;
+        assert_eq!(rt; given, Some(want));
     }
     Ok(())
 }
 
-#[test]
-fn refuses_a_rule_more(rt: HostRuntime) -> Result<(), Fail> {
-    let alloc = rt.alloc();
+/// The answer to a rule on this port, where all rows are taken by the ports from 0 on.
+fn answer_when_full(
+    alloc: Global,
+    value: u128,
+    flags: u8,
+) -> Result<Option<Judgement>, OutOfMemory> {
     let names = interfaces(alloc)?;
     let mut state = State::new(alloc)?;
     state.absorb(&attach(0, 31));
-    let port = |value| RuleKey {
-        kind: RuleKind::Port,
-        value,
-    };
     for value in 0..u128::from(ROWS) {
         let key = port(value);
         state.absorb(&Change::SetRule { key, flags: 4 });
     }
+    let command = rule(port(value), flags, false);
+    if !rule_fits(&command) {
+        return Ok(None);
+    }
+    Ok(Some(judge(&state, &names, &command)))
+}
+
+fn port(value: u128) -> RuleKey {
+    RuleKey {
+        kind: RuleKind::Port,
+        value,
+    }
+}
+
+#[test]
+fn refuses_a_rule_more(rt: HostRuntime) -> Result<(), Fail> {
     let full = Judgement::Refused(Reason::RulesFull);
-    let key = port(7);
-    let change = Judgement::Accepted(Change::SetRule { key, flags: 8 });
-    let rows = [
-        (rule(port(u128::from(ROWS)), 4, false), full),
-        (rule(key, 8, false), change),
-    ];
-    for (command, want) in &rows {
-        assert_eq!(rt; answer(&state, &names, command), Some(*want));
+    let change = Judgement::Accepted(Change::SetRule {
+        key: port(7),
+        flags: 8,
+    });
+    for (value, flags, want) in [(u128::from(ROWS), 4, full), (7, 8, change)] {
+        let given = answer_when_full(rt.alloc(), value, flags)?;
+        assert_eq!(rt; given, Some(want));
     }
     Ok(())
 }
 
+/// Whether the change is taken, and then how many members, rows and publications there are.
+fn absorbed(state: &mut State, change: Change) -> (bool, usize, u32, u32) {
+    let taken = state.takes(&change);
+    state.absorb(&change);
+    (
+        taken,
+        state.members().len(),
+        state.rules().len(),
+        state.count(),
+    )
+}
+
 #[test]
 fn absorbs_each_change(rt: HostRuntime) -> Result<(), Fail> {
-    let mut state = two_filters(rt.alloc())?;
-    let cleared = Change::ClearRule {
-        key: PORT,
-        flags: 15,
-    };
-    let leaves = |interface, number, clear_rules| Change::Detach {
-        interface,
-        number,
-        clear_rules,
-    };
-    let set = Change::SetRule {
-        key: ETHER,
-        flags: 2,
-    };
-    // the change, whether it is taken, and then how many members, rows and publications there are
+    let set = |key, flags| Change::SetRule { key, flags };
+    let clear = |key, flags| Change::ClearRule { key, flags };
+    let changes = life();
+    let mut state = state_after(rt.alloc(), &changes[..3])?;
     let rows = [
-        (attach(1, 31), false, 2, 1, 3),
-        (attach(8, 31), false, 2, 1, 3),
-        (leaves(8, 1, false), false, 2, 1, 3),
-        (
-            Change::SetRule {
-                key: ETHER,
-                flags: 0,
-            },
-            false,
-            2,
-            1,
-            3,
-        ),
-        (
-            Change::ClearRule {
-                key: ETHER,
-                flags: 4,
-            },
-            false,
-            2,
-            1,
-            3,
-        ),
-        (cleared, true, 2, 0, 4),
-        (cleared, true, 2, 0, 5),
-        (leaves(0, 2, false), true, 2, 0, 6),
-        (set, true, 2, 1, 7),
-        (leaves(1, 2, false), true, 1, 1, 8),
-        (leaves(0, 1, true), true, 0, 0, 9),
+        (attach(1, 31), (false, 2, 1, 3)),
+        (attach(8, 31), (false, 2, 1, 3)),
+        (detach(8, 1, false), (false, 2, 1, 3)),
+        (set(ETHER, 0), (false, 2, 1, 3)),
+        (clear(ETHER, 4), (false, 2, 1, 3)),
+        (clear(PORT, 15), (true, 2, 0, 4)),
+        (clear(PORT, 15), (true, 2, 0, 5)),
+        (detach(0, 2, false), (true, 2, 0, 6)),
+        (set(ETHER, 2), (true, 2, 1, 7)),
+        (detach(1, 2, false), (true, 1, 1, 8)),
+        (detach(0, 1, true), (true, 0, 0, 9)),
     ];
-    for (change, taken, members, rules, count) in rows {
-        assert_eq!(rt; state.takes(&change), taken);
-        state.absorb(&change);
-        assert_eq!(rt; state.members().len(), members);
-        assert_eq!(rt; state.rules().len(), rules);
-        assert_eq!(rt; state.count(), count);
+    for (change, want) in rows {
+        assert_eq!(rt; absorbed(&mut state, change), want);
     }
     Ok(())
 }

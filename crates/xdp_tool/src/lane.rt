@@ -3,7 +3,7 @@ ghost use Rattle.std.specs.Prelude.{◌≡◌, ◌≤◌, length, OnOk, IfOk};
 use lists::Bytes;
 use script_text::{TraceRow, trace_line};
 use std::alloc::Global;
-use xdp_state::{CountList, Own, State, Tally, traverse};
+use xdp_state::{CountList, Own, Packet, State, Tally, traverse};
 use xio::OutOfMemory;
 
 /// A receive queue of an interface, with what its processor carried.
@@ -72,7 +72,8 @@ impl<'a> Lane<'a> {
         let place = self.counts.len();
         self.own.prepare(state)?;
         self.counts.push(state.count())?;
-        traverse(state, &mut self.own, frame);
+        let packet = packet_of(alloc, frame)?;
+        traverse(state, &mut self.own, &packet);
         self.tally
             .add(self.own.visits(), self.own.verdict(), frame.len() as u64)?;
         if let Some(trace) = &mut self.trace {
@@ -101,4 +102,19 @@ impl<'a> Lane<'a> {
         }
         Ok(std::mem::replace(&mut self.counts, CountList::new(alloc)))
     }
+}
+
+/// A packet of this frame.
+fn packet_of(alloc: Global, bytes: &[u8]) -> Result<Packet, OutOfMemory>
+    requires least { 14 ≤ length bytes.now }
+    requires most { length bytes.now ≤ 15872 }
+    ensures { IfOk result (λ packet. packet.frame ≡ bytes.now) }
+{
+    let mut frame = Bytes::new(alloc);
+    frame.append(bytes)?;
+    Ok(Packet {
+        id: 0,
+        timestamp: 0,
+        frame,
+    })
 }

@@ -1,8 +1,9 @@
 //! The program `xdptool`: the tool's run over the system's files and streams.
 #![tactic(auto)]
 
+use std::fs::File;
 use std::process::ExitCode;
-use std::rt::Env;
+use std::rt::{Env, Files};
 use std::{env, io};
 use xdp_tool::run_tool;
 use xio::{RealFiles, RealOut, write_all};
@@ -16,8 +17,14 @@ fn words_of(rt: &(impl Env + AllocGlobal)) -> io::Result<Vec<String>> {
     Ok(words)
 }
 
+/// Takes the number of a standard stream that is closed, so that no file gets it. A write to it fails.
+fn held_number<R: Files>(rt: &R) -> Option<R::File> {
+    File::open(rt, "/dev/null").ok()
+}
+
 /// Words that can't be read, as where they aren't UTF-8, aren't taken: they count as none.
 fn main(rt: HostRuntime) -> ExitCode {
+    let _held_numbers = [held_number(&rt), held_number(&rt), held_number(&rt)];
     let mut err = RealOut::new(rt.stderr());
     let words = match words_of(&rt) {
         Ok(words) => words,

@@ -1,5 +1,6 @@
 pub mod PrefixLemmas
 pub mod SetLemmas
+pub mod PrintLemmas
 mod Taken
 mod OneFile
 mod ShelfLemmas

@@ -46,6 +46,7 @@ asks_for handles t t' name n closed same = record {
   content = ap (λ (u : Told). u.content) same;
   flushed = ap (λ (u : Told). u.flushed) same;
   asked = ap (λ (u : Told). u.asked) same;
+  made = ap (λ (u : Told). u.made) same;
   places = set_at-elsewhere t'.places t.places (length t.asked) (place-elsewhere t t' name n same);
   names = λ m held. ap (λ (u : Told). u.name_of m) same ∙ set_at-other t.name_of n name m (λ e. held (ap handles e ∙ closed));
   calls = λ m held. ap (λ (u : Told). u.call_of m) same ∙ set_at-other t.call_of n (length t.asked) m (λ e. held (ap handles e ∙ closed));

@@ -13,7 +13,7 @@ take-min : (n m : ℕ) (text : List ℕ) → take n (take m text) ≡ take (min 
 take-min n m text = grind (arith, common_steps, take-take n m text, take_min n text)
 
 -- a front of the front is one of the whole
-take-front : (n : ℕ) (front rest : List ℕ) → take n front ≡ take (min n (length front)) (front ++ rest)
+pub take-front : (n : ℕ) (front rest : List ℕ) → take n front ≡ take (min n (length front)) (front ++ rest)
 take-front n front rest = sym (take_min n front) ∙ sym (take-append-le (min n (length front)) front rest (omega arith))
 
 -- nothing appended is a prefix

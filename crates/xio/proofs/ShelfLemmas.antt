@@ -13,7 +13,7 @@ use Rattle.std.proofs.lemmas.Option.{slice_get-get_or, slice_get_past}
 use Rattle.std.proofs.lemmas.Slice.Eq.{bytes_eq-Decides}
 use mathlib.Core.Path.{fun_ext}
 use Rattle.xio.specs.Told.{set_named}
-use Rattle.xio.specs.Shelf.{has_name, part_of}
+use Rattle.xio.specs.Shelf.{Setup, has_name, part_of, setup_of, setups_of}
 use Rattle.xio.specs.declared.memory.stored_file.StoredFile.{StoredFile}
 
 -- a place was found
@@ -136,5 +136,11 @@ pub part_of-kept : {V : Type 0} (part : StoredFile → V) (none : V) (files : Li
 part_of-kept part none files name i old new e at same kept =
     part_of-changed part none files name i old new e at same
     ∙ sym (set_named-own (part_of part none files) name (part new) (part_of-reached part none files name i old e at ∙ sym kept))
+
+-- whether a file has a name, once one is set up
+pub there-placed : (files files' : List StoredFile) (name : List ℕ) (file : StoredFile) → setups_of files' ≡ set_named (setups_of files) name (setup_of file)
+    → (λ q. (setups_of files' q).there) ≡ set_named (λ q. (setups_of files q).there) name true
+there-placed files files' name file same =
+    fun_ext (λ q. ap (λ (setups : List ℕ → Setup). (setups q).there) same ∙ elim (names_tell q name) [ inl here ↦ rw here.0 refl | inr differs ↦ rw differs.0 refl ])
 
 pub ruleset shelf_rules = (part_of-found, part_of-missing)

@@ -6,11 +6,16 @@ pub mod Handles
 pub mod Told
 pub mod Lent
 pub mod ReadFile
+pub mod Printing
+pub mod CallPlan
 pub mod Room
 pub mod Pieces
+pub mod MemorySource
+pub mod MemorySink
 pub mod Shelf
 pub mod Numbers
 pub mod InMemory
+pub mod FaultPlan
 pub mod MemoryFiles
 pub mod SteadyFiles
 pub mod Slot

@@ -21,13 +21,14 @@ ReadsFile limit content into into' (Err ReadFault) = AppendsPrefix into into' co
 ReadsFile limit content into into' (Err (TooLarge n)) = (n ≡ limit) × (limit < length content) × AppendsPrefix into into' content
 ReadsFile limit content into into' (Err OutOfMemory) = AppendsPrefix into into' content
 
--- One call of `open_file` more, whose file was taken up to this place. No content and nothing flushed changed, and
+-- One call of `open_file` more, whose file was taken up to this place. No file was made, no content and nothing flushed changed, and
 -- every number that was open has its name and its call as before.
 pub record AsksFor (handles : ℕ → Handle) (old new : Told) (name : List ℕ) (place : ℕ) : Type 0 where
   pub content : new.content ≡ old.content
   pub flushed : new.flushed ≡ old.flushed
   pub asked : new.asked ≡ old.asked ++ name ∷ []
   pub places : new.places ≡ set_at old.places (length old.asked) place
+  pub made : new.made ≡ old.made
   pub names : (n : ℕ) → handles n ≢ Closed → new.name_of n ≡ old.name_of n
   pub calls : (n : ℕ) → handles n ≢ Closed → new.call_of n ≡ old.call_of n
 

@@ -14,6 +14,8 @@ pub record Told : Type 0 where
   pub asked : List (List ℕ)
   -- by call, from 0: the place up to which its file was taken, 0 where no file was opened
   pub places : ℕ → ℕ
+  -- the names of the calls of `make_file`, in order, but for those that wanted memory
+  pub made : List (List ℕ)
   -- by open number: its name
   pub name_of : ℕ → List ℕ
   -- by opened number: its call
@@ -21,7 +23,7 @@ pub record Told : Type 0 where
 
 -- what is told of no files
 abbrev pub told_none : Told
-told_none = record { content = λ _. []; flushed = λ _. 0; asked = []; places = λ _. 0; name_of = λ _. []; call_of = λ _. 0 }
+told_none = record { content = λ _. []; flushed = λ _. 0; asked = []; places = λ _. 0; made = []; name_of = λ _. []; call_of = λ _. 0 }
 
 -- f with v at this name
 abbrev pub set_named : {V : Type 0} → (List ℕ → V) → List ℕ → V → List ℕ → V
@@ -46,14 +48,16 @@ after_open t name (Ok n) = record (after_ask t name) {
 after_open t name (Err Failed) = after_ask t name
 after_open t name (Err OutOfMemory) = t
 
--- the named file is there and empty, whatever it held, and nothing of it is flushed
+-- one more call; at `Ok` the named file is there and empty, whatever it held, and nothing of it is flushed
 abbrev pub after_make : Told → List ℕ → Result ℕ FileFault → Told
 after_make t name (Ok n) = record t {
+  made = t.made ++ name ∷ [];
   content = set_named t.content name [];
   flushed = set_named t.flushed name 0;
   name_of = set_at t.name_of n name;
 }
-after_make t name (Err _) = t
+after_make t name (Err Failed) = record t { made = t.made ++ name ∷ [] }
+after_make t name (Err OutOfMemory) = t
 
 abbrev pub after_read : {E : Type 0} → Told → ℕ → Result ℕ E → Told
 after_read t file (Ok n) = record t { places = set_at t.places (t.call_of file) (t.places (t.call_of file) + n) }

@@ -7,7 +7,6 @@ mod entry;
 mod files;
 mod numbers;
 mod pieces;
-mod room;
 mod shelf;
 mod sink;
 mod source;

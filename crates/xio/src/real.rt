@@ -1,8 +1,12 @@
 //! The system's files and writers. They count their faults and tell nothing of content.
 
+mod again;
 mod files;
+mod identity;
 mod out;
 mod slot;
+#[cfg(test)]
+mod tests;
 
 pub use files::RealFiles;
 pub use out::RealOut;

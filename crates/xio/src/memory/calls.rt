@@ -1,7 +1,9 @@
-ghost use Rattle.std.specs.Prelude.{◌≡◌, ◌+◌, ◌-◌, ◌^◌, ◌↔◌, min, IsTrue, IfOk, Contains};
+ghost use Rattle.std.specs.Prelude.{◌≡◌, ℕ, ◌<◌, ◌^◌, IfOk};
+ghost use Rattle.xio.specs.CallPlan.{CallPlan, next_call, is_failing};
 
 use lists::OutOfMemory;
 use std::alloc::Global;
+use std::marker::Model;
 
 /// The calls of a form in memory, and which of them are to fail.
 #[derive(Debug, Drop)]
@@ -10,11 +12,16 @@ pub struct Calls {
     made: u32,
 }
 
+impl Model for Calls {
+    ghost Value = { CallPlan };
+
+    ghost view = { λ calls. record { failing = calls.failing.items; made = calls.made } };
+}
+
 impl Calls {
     /// The calls with these numbers, from 1, are to fail.
     pub fn new(alloc: Global, failing: &[u32]) -> Result<Self, OutOfMemory>
-        ensures failing { IfOk result (λ calls. calls.failing.items ≡ failing.now) }
-        ensures none { IfOk result (λ calls. calls.made ≡ 0) }
+        ensures { IfOk result (λ calls. calls ≡ record { failing = failing.now; made = 0 }) }
     {
         Ok(Calls {
             failing: Vec::from_slice(alloc, failing)?,
@@ -22,10 +29,10 @@ impl Calls {
         })
     }
 
-    /// Counts a call and says whether it is to fail. All calls from number 2^32 - 1 on count as that one.
+    /// Counts a call and says whether it is to fail.
     pub fn next_fails(&mut self) -> bool
-        ensures counted { self.new ≡ record self.old { made = min (self.old.made + 1) (2 ^ 32 - 1) } }
-        ensures listed { IsTrue result ↔ Contains self.new.failing.items self.new.made }
+        ensures counted { self.new ≡ next_call self.old }
+        ensures fails { result ≡ is_failing self.new }
     {
         self.made = self.made.saturating_add(1);
         self.failing.contains(&self.made)

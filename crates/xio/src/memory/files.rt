@@ -1,6 +1,10 @@
-ghost use Rattle.std.specs.Prelude.{◌≡◌, ◌≢◌, ◌<◌, ◌≤◌, ◌↔◌, true, false, length, IsTrue, IsSome, IfOk, IfSome, OnOk, OnErr};
+ghost use Rattle.std.specs.Prelude.{◌≡◌, ◌≢◌, ◌<◌, ◌≤◌, ◌||◌, ◌↔◌, [], true, false, not, length, IsTrue, IsSome, is_err, IfOk, IfSome, OnOk, OnErr, Some, None};
+ghost use Rattle.xio.specs.CallPlan.{is_failing};
 ghost use Rattle.xio.specs.Causes.{HasCause, HasFileCause};
+ghost use Rattle.xio.specs.FaultPlan.{after_call, FailsWhere};
 ghost use Rattle.xio.specs.Handles.{Closed, Opened, Made, GivesHandle, set_at};
+ghost use Rattle.xio.specs.Pieces.{is_bad, StopsAt};
+ghost use Rattle.xio.specs.Shelf.{no_setup, takes};
 ghost use Rattle.xio.specs.Streams.{ReadsFrom};
 ghost use Rattle.xio.specs.Told.{set_named, told_none, rest_of, after_open, after_make, after_read, after_write, after_flush};
 
@@ -10,7 +14,6 @@ use crate::memory::calls::Calls;
 use crate::memory::copies::copy_of;
 use crate::memory::numbers::Numbers;
 use crate::memory::pieces::fill;
-use crate::memory::room::Room;
 use crate::memory::shelf::Shelf;
 use crate::memory::stored_file::StoredFile;
 use lists::OutOfMemory;
@@ -30,12 +33,16 @@ pub struct MemoryFiles {
 }
 
 impl MemoryFiles {
-    ghost use Rattle.xio.specs.MemoryFiles.{told_by, handles_of, has_file};
+    ghost use Rattle.xio.specs.MemoryFiles.{told_by, plan_of, handles_of, has_file};
 
     /// No files. Each made file takes room for `capacity` bytes. `failing` are the calls that are to fail, numbered from 1.
     pub fn new(alloc: Global, capacity: u32, failing: &[u32]) -> Result<Self, OutOfMemory>
         ensures told { IfOk result (λ files. told_by files ≡ told_none) }
-        ensures no_files { IfOk result (λ files. (name : _) → has_file files name ≡ false) }
+        ensures plan { IfOk result (λ files. plan_of files ≡ record {
+          calls = record { failing = failing.now; made = 0 };
+          capacity = capacity;
+          setups = λ _. no_setup;
+        }) }
         ensures no_numbers { IfOk result (λ files. handles_of files ≡ (λ _. Closed)) }
         ensures no_read_faults { IfOk result (λ files. ⟦<MemoryFiles as Files>⟧.read_faults files ≡ 0) }
         ensures no_write_faults { IfOk result (λ files. ⟦<MemoryFiles as Files>⟧.write_faults files ≡ 0) }
@@ -63,9 +70,11 @@ impl MemoryFiles {
           content = set_named (told_by self.old).content name.now bytes.now;
           flushed = set_named (told_by self.old).flushed name.now 0;
         }) }
-        ensures there { OnOk result (has_file self.new ≡ set_named (has_file self.old) name.now true) }
+        ensures plan { OnOk result (plan_of self.new ≡ record (plan_of self.old) {
+          setups = set_named (plan_of self.old).setups name.now (record { there = true; room = length bytes.now; bad_place = bad_place });
+        }) }
         ensures err { OnErr result (told_by self.new ≡ told_by self.old) }
-        ensures err_files { OnErr result (has_file self.new ≡ has_file self.old) }
+        ensures err_plan { OnErr result (plan_of self.new ≡ plan_of self.old) }
         ensures same_handles { handles_of self.new ≡ handles_of self.old }
         ensures same_read_faults { ⟦<MemoryFiles as Files>⟧.read_faults self.new ≡ ⟦<MemoryFiles as Files>⟧.read_faults self.old }
         ensures same_write_faults { ⟦<MemoryFiles as Files>⟧.write_faults self.new ≡ ⟦<MemoryFiles as Files>⟧.write_faults self.old }
@@ -85,7 +94,7 @@ impl MemoryFiles {
 }
 
 impl Files for MemoryFiles {
-    ghost use Rattle.xio.specs.MemoryFiles.{told_by, handles_of, has_file, read_faults_of, write_faults_of};
+    ghost use Rattle.xio.specs.MemoryFiles.{told_by, plan_of, handles_of, has_file, read_faults_of, write_faults_of};
 
     ghost tells = { true };
 
@@ -102,7 +111,8 @@ impl Files for MemoryFiles {
         ensures told_after { told_by self.new ≡ after_open (told_by self.old) name.now result }
         ensures cause { HasFileCause (read_faults_of self.old) (read_faults_of self.new) result }
         ensures same_write_faults { write_faults_of self.new ≡ write_faults_of self.old }
-        ensures same_files { has_file self.new ≡ has_file self.old }
+        ensures fails { FailsWhere (is_failing (plan_of self.new).calls || not (has_file self.old name.now)) result }
+        ensures counted { plan_of self.new ≡ after_call (plan_of self.old) }
     {
         let fails = self.calls.next_fails() || self.shelf.content(name.as_bytes()).is_none();
         let asked = copy_of(self.alloc, name.as_bytes())?;
@@ -121,24 +131,25 @@ impl Files for MemoryFiles {
         ensures told_after { told_by self.new ≡ after_make (told_by self.old) name.now result }
         ensures cause { HasFileCause (write_faults_of self.old) (write_faults_of self.new) result }
         ensures same_read_faults { read_faults_of self.new ≡ read_faults_of self.old }
-        ensures there { OnOk result (has_file self.new ≡ set_named (has_file self.old) name.now true) }
-        ensures err_files { OnErr result (has_file self.new ≡ has_file self.old) }
+        ensures fails { FailsWhere (is_failing (plan_of self.new).calls) result }
+        ensures counted { OnErr result (plan_of self.new ≡ after_call (plan_of self.old)) }
+        ensures there { OnOk result (plan_of self.new ≡ record (after_call (plan_of self.old)) {
+          setups = set_named (plan_of self.old).setups name.now (record { there = true; room = (plan_of self.old).capacity; bad_place = None });
+        }) }
     {
-        if self.calls.next_fails() {
+        let fails = self.calls.next_fails();
+        let asked = copy_of(self.alloc, name.as_bytes())?;
+        self.numbers.reserve()?;
+        if fails {
+            self.numbers.ask_make(asked);
             self.write_faults = self.write_faults.saturating_add(1);
             return Err(FileFault::Failed);
         }
-        let file = StoredFile {
-            name: copy_of(self.alloc, name.as_bytes())?,
-            room: Room::new(self.alloc, self.capacity as usize)?,
-            flushed: 0,
-            bad_place: None,
-        };
+        let file = StoredFile::empty(self.alloc, name, self.capacity)?;
         let own_name = copy_of(self.alloc, name.as_bytes())?;
-        self.numbers.reserve()?;
         self.shelf.reserve()?;
         self.shelf.place(file);
-        Ok(self.numbers.make(own_name))
+        Ok(self.numbers.make(own_name, asked))
     }
 
     fn read(&mut self, file: u32, buffer: &mut [u8]) -> Result<usize, Failed>
@@ -149,7 +160,10 @@ impl Files for MemoryFiles {
         ensures same_handles { handles_of self.new ≡ handles_of self.old }
         ensures cause { HasCause (read_faults_of self.old) (read_faults_of self.new) result }
         ensures same_write_faults { write_faults_of self.new ≡ write_faults_of self.old }
-        ensures same_files { has_file self.new ≡ has_file self.old }
+        ensures fails { let t = told_by self.old in is_err result
+            ≡ (is_failing (plan_of self.new).calls || is_bad ((plan_of self.old).setups (t.name_of file)).bad_place (t.places (t.call_of file))) }
+        ensures stops { let t = told_by self.old in StopsAt ((plan_of self.old).setups (t.name_of file)).bad_place (t.places (t.call_of file)) result }
+        ensures counted { plan_of self.new ≡ after_call (plan_of self.old) }
     {
         if self.calls.next_fails() {
             self.read_faults = self.read_faults.saturating_add(1);
@@ -173,13 +187,14 @@ impl Files for MemoryFiles {
 
     fn write(&mut self, file: u32, piece: &[u8]) -> Result<usize, Failed>
         requires { handles_of self.old file ≡ Made }
-        ensures within { IfOk result (λ n. n ≤ length piece.now) }
-        ensures some { IfOk result (λ n. 0 < length piece.now → 0 < n) }
+        ensures whole { IfOk result (λ n. n ≡ length piece.now) }
         ensures told_after { told_by self.new ≡ after_write (told_by self.old) file piece.now result }
         ensures same_handles { handles_of self.new ≡ handles_of self.old }
         ensures cause { HasCause (write_faults_of self.old) (write_faults_of self.new) result }
         ensures same_read_faults { read_faults_of self.new ≡ read_faults_of self.old }
-        ensures same_files { has_file self.new ≡ has_file self.old }
+        ensures fails { let t = told_by self.old in let name = t.name_of file in is_err result
+            ≡ (is_failing (plan_of self.new).calls || not (takes ((plan_of self.old).setups name) (t.content name) piece.now)) }
+        ensures counted { plan_of self.new ≡ after_call (plan_of self.old) }
     {
         if self.calls.next_fails() || !self.shelf.write(self.numbers.name(file), piece) {
             self.write_faults = self.write_faults.saturating_add(1);
@@ -194,7 +209,8 @@ impl Files for MemoryFiles {
         ensures same_handles { handles_of self.new ≡ handles_of self.old }
         ensures cause { HasCause (write_faults_of self.old) (write_faults_of self.new) result }
         ensures same_read_faults { read_faults_of self.new ≡ read_faults_of self.old }
-        ensures same_files { has_file self.new ≡ has_file self.old }
+        ensures fails { is_err result ≡ is_failing (plan_of self.new).calls }
+        ensures counted { plan_of self.new ≡ after_call (plan_of self.old) }
     {
         if self.calls.next_fails() {
             self.write_faults = self.write_faults.saturating_add(1);
@@ -210,7 +226,7 @@ impl Files for MemoryFiles {
         ensures same_told { told_by self.new ≡ told_by self.old }
         ensures same_read_faults { read_faults_of self.new ≡ read_faults_of self.old }
         ensures same_write_faults { write_faults_of self.new ≡ write_faults_of self.old }
-        ensures same_files { has_file self.new ≡ has_file self.old }
+        ensures same_plan { plan_of self.new ≡ plan_of self.old }
     {
         self.numbers.close(file);
     }

@@ -1,23 +1,21 @@
-ghost use Rattle.std.specs.Prelude.{◌≡◌, ◌+◌, ◌^◌, ◌<◌, ◌≤◌, ◌↔◌, Some, length, min, drop, take, IsErr, IfOk, IfSome};
-ghost use Rattle.xio.specs.Pieces.{IsFrontOf};
+ghost use Rattle.std.specs.Prelude.{◌≡◌, ◌+◌, ◌^◌, ◌<◌, ◌≤◌, length, min, drop, take, is_err, IfOk, IfSome};
+ghost use Rattle.xio.specs.Pieces.{IsFrontOf, is_bad};
 
 use crate::failed::Failed;
 
 /// What a read at this place can take: the rest up to the bad place, at which a read fails.
 pub fn piece_at(bytes: &[u8], place: u64, bad_place: Option<u64>) -> Result<&[u8], Failed>
-    ensures fails { IsErr result ↔ (bad_place ≡ Some place) }
+    ensures fails { is_err result ≡ is_bad bad_place place }
     ensures front { IfOk result (λ piece. IsFrontOf piece.now (drop place bytes.now)) }
-    ensures stops { IfOk result (λ piece. IfSome bad_place (λ bad. place < bad → place + length piece.now ≤ bad)) }
+    ensures stops { IfOk result (λ piece. IfSome bad_place (λ bad. place ≤ bad → place + length piece.now ≤ bad)) }
     ensures fits { IfOk result (λ piece. place + length piece.now < 2 ^ 64) }
 {
-    if bad_place == Some(place) {
-        return Err(Failed);
-    }
     let rest = rest_from(bytes, place);
-    Ok(match bad_place {
-        Some(bad) if place < bad => front_of(rest, bad - place),
-        _ => rest,
-    })
+    match bad_place {
+        Some(bad) if place == bad => Err(Failed),
+        Some(bad) if place < bad => Ok(front_of(rest, bad - place)),
+        _ => Ok(rest),
+    }
 }
 
 /// What stands from this place on.

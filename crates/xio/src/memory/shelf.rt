@@ -1,7 +1,7 @@
-ghost use Rattle.std.specs.Prelude.{◌≡◌, ◌+◌, ◌^◌, ◌<◌, ◌↔◌, [], ◌++◌, Some, true, length, drop, position, vec_len, vec_capacity, is_some, IsTrue, IsErr, IfOk, IfSome, OnOk, OnErr};
+ghost use Rattle.std.specs.Prelude.{◌≡◌, ◌+◌, ◌^◌, ◌<◌, ◌≤◌, [], ◌++◌, length, drop, position, vec_len, vec_capacity, is_some, is_err, IfOk, IfSome, OnOk};
 ghost use Rattle.std.specs.Bool.{OnTrue, OnFalse};
-ghost use Rattle.xio.specs.Pieces.{IsFrontOf};
-ghost use Rattle.xio.specs.Shelf.{has_name, is_there, content_of, flushed_of, bad_place_of};
+ghost use Rattle.xio.specs.Pieces.{IsFrontOf, is_bad};
+ghost use Rattle.xio.specs.Shelf.{has_name, setup_of, setups_of, content_of, flushed_of, takes};
 ghost use Rattle.xio.specs.Told.{set_named};
 
 use crate::failed::Failed;
@@ -40,7 +40,7 @@ impl Shelf {
         requires room { vec_len self.old.files < vec_capacity self.old.files }
         ensures content { content_of self.new.files.items ≡ set_named (content_of self.old.files.items) file.name file.room.bytes }
         ensures flushed { flushed_of self.new.files.items ≡ set_named (flushed_of self.old.files.items) file.name file.flushed }
-        ensures there { is_there self.new.files.items ≡ set_named (is_there self.old.files.items) file.name true }
+        ensures setups { setups_of self.new.files.items ≡ set_named (setups_of self.old.files.items) file.name (setup_of file) }
     {
         match self.index_of(file.name.as_slice()) {
             Some(index) => self.files[index] = file,
@@ -49,7 +49,7 @@ impl Shelf {
     }
 
     pub fn content(&self, name: &[u8]) -> Option<&[u8]>
-        ensures there { is_some result ≡ is_there self.now.files.items name.now }
+        ensures there { is_some result ≡ (setups_of self.now.files.items name.now).there }
         ensures bytes { IfSome result (λ bytes. bytes.now ≡ content_of self.now.files.items name.now) }
     {
         let index = self.index_of(name)?;
@@ -58,9 +58,10 @@ impl Shelf {
 
     /// What a read of the named file at this place can take.
     pub fn piece(&self, name: &[u8], place: u64) -> Result<&[u8], Failed>
-        ensures fails { IsErr result ↔ (bad_place_of self.now.files.items name.now ≡ Some place) }
+        ensures fails { is_err result ≡ is_bad (setups_of self.now.files.items name.now).bad_place place }
         ensures front { IfOk result (λ piece. IsFrontOf piece.now (drop place (content_of self.now.files.items name.now))) }
-        ensures fits { IfOk result (λ piece. place + length piece.now < 2 ^ 64) }
+        ensures stops { IfOk result (λ piece. IfSome (setups_of self.now.files.items name.now).bad_place (λ bad. place ≤ bad → place + length piece.now ≤ bad)) }
+        ensures within { IfOk result (λ piece. place + length piece.now < 2 ^ 64) }
     {
         let Some(index) = self.index_of(name) else {
             return Ok(&[]);
@@ -71,9 +72,10 @@ impl Shelf {
 
     /// Puts a piece behind the named file's bytes and says that it fitted.
     pub fn write(&mut self, name: &[u8], piece: &[u8]) -> bool
+        ensures takes { result ≡ takes (setups_of self.old.files.items name.now) (content_of self.old.files.items name.now) piece.now }
         ensures content { OnTrue result (content_of self.new.files.items ≡ set_named (content_of self.old.files.items) name.now (content_of self.old.files.items name.now ++ piece.now)) }
         ensures flushed { OnTrue result (flushed_of self.new.files.items ≡ flushed_of self.old.files.items) }
-        ensures there { is_there self.new.files.items ≡ is_there self.old.files.items }
+        ensures same_setups { setups_of self.new.files.items ≡ setups_of self.old.files.items }
         ensures unchanged { OnFalse result (self.new.files.items ≡ self.old.files.items) }
     {
         let Some(index) = self.index_of(name) else {
@@ -87,7 +89,7 @@ impl Shelf {
     pub fn flush(&mut self, name: &[u8])
         ensures content { content_of self.new.files.items ≡ content_of self.old.files.items }
         ensures flushed { flushed_of self.new.files.items ≡ set_named (flushed_of self.old.files.items) name.now (length (content_of self.old.files.items name.now)) }
-        ensures there { is_there self.new.files.items ≡ is_there self.old.files.items }
+        ensures same_setups { setups_of self.new.files.items ≡ setups_of self.old.files.items }
     {
         if let Some(index) = self.index_of(name) {
             let file = &mut self.files[index];

@@ -1,4 +1,8 @@
-ghost use Rattle.std.specs.Prelude.{◌≡◌, true, drop, IfOk};
+ghost use Rattle.std.specs.Prelude.{◌≡◌, ◌≤◌, ◌||◌, true, length, drop, is_err, IfOk};
+ghost use Rattle.xio.specs.CallPlan.{next_call, is_failing};
+ghost use Rattle.xio.specs.Causes.{HasCause};
+ghost use Rattle.xio.specs.Pieces.{is_bad, StopsAt, place_after};
+ghost use Rattle.xio.specs.Streams.{ReadsFrom};
 
 use crate::failed::Failed;
 use crate::memory::calls::Calls;
@@ -19,6 +23,8 @@ pub struct MemorySource {
 }
 
 impl MemorySource {
+    ghost use Rattle.xio.specs.MemorySource.{calls_of, place_of, bad_place_of};
+
     /// `failing` are the calls that are to fail, numbered from 1. A read at `bad_place` fails.
     pub fn new(
         alloc: Global,
@@ -28,6 +34,9 @@ impl MemorySource {
     ) -> Result<Self, OutOfMemory>
         ensures rest { IfOk result (λ source. ⟦<MemorySource as Source>⟧.rest source ≡ bytes.now) }
         ensures faultless { IfOk result (λ source. ⟦<MemorySource as Source>⟧.faults source ≡ 0) }
+        ensures calls { IfOk result (λ source. calls_of source ≡ record { failing = failing.now; made = 0 }) }
+        ensures place { IfOk result (λ source. place_of source ≡ 0) }
+        ensures bad_place { IfOk result (λ source. bad_place_of source ≡ bad_place) }
     {
         Ok(MemorySource {
             bytes: copy_of(alloc, bytes)?,
@@ -40,15 +49,26 @@ impl MemorySource {
 }
 
 impl Source for MemorySource {
+    ghost use Rattle.xio.specs.MemorySource.{calls_of, place_of, bad_place_of, rest_of, faults_of};
+
     ghost tells = { true };
 
-    ghost rest = { λ source. drop source.place source.bytes };
+    ghost rest = { rest_of };
 
-    ghost faults = { λ source. source.faults };
+    ghost faults = { faults_of };
 
     ghost setting = { λ _. tt };
 
-    fn read(&mut self, buffer: &mut [u8]) -> Result<usize, Failed> {
+    fn read(&mut self, buffer: &mut [u8]) -> Result<usize, Failed>
+        ensures within { IfOk result (λ n. n ≤ length buffer.new) }
+        ensures bytes { ReadsFrom (rest_of self.old) (rest_of self.new) result buffer.new }
+        ensures cause { HasCause (faults_of self.old) (faults_of self.new) result }
+        ensures fails { is_err result ≡ (is_failing (calls_of self.new) || is_bad (bad_place_of self.old) (place_of self.old)) }
+        ensures counted { calls_of self.new ≡ next_call (calls_of self.old) }
+        ensures stops { StopsAt (bad_place_of self.old) (place_of self.old) result }
+        ensures place { place_of self.new ≡ place_after (place_of self.old) result }
+        ensures same_bad_place { bad_place_of self.new ≡ bad_place_of self.old }
+    {
         if self.calls.next_fails() {
             self.faults = self.faults.saturating_add(1);
             return Err(Failed);

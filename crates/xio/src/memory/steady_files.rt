@@ -89,12 +89,13 @@ impl Files for SteadyFiles {
         ensures err_files { OnErr result (has_file self.new ≡ has_file self.old) }
         ensures memory_alone { IsOkUnless result fault.OutOfMemory }
     {
-        let file = StoredFile::holding(self.alloc, name, &[], None)?;
+        let file = StoredFile::empty(self.alloc, name, 0)?;
+        let asked = copy_of(self.alloc, name.as_bytes())?;
         let own_name = copy_of(self.alloc, name.as_bytes())?;
         self.numbers.reserve()?;
         self.shelf.reserve()?;
         self.shelf.place(file);
-        Ok(self.numbers.make(own_name))
+        Ok(self.numbers.make(own_name, asked))
     }
 
     fn read(&mut self, file: u32, buffer: &mut [u8]) -> Result<usize, Failed>

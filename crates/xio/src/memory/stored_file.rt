@@ -1,7 +1,7 @@
-ghost use Rattle.std.specs.Prelude.{◌≡◌, IfOk};
+ghost use Rattle.std.specs.Prelude.{◌≡◌, [], None, length, IfOk};
 
 use crate::memory::copies::copy_of;
-use crate::memory::room::Room;
+use crate::room::Room;
 use lists::{Bytes, OutOfMemory};
 use std::alloc::Global;
 
@@ -26,6 +26,7 @@ impl StoredFile {
     ) -> Result<Self, OutOfMemory>
         ensures name { IfOk result (λ file. file.name ≡ name.now) }
         ensures bytes { IfOk result (λ file. file.room.bytes ≡ bytes.now) }
+        ensures size { IfOk result (λ file. file.room.size ≡ length bytes.now) }
         ensures unflushed { IfOk result (λ file. file.flushed ≡ 0) }
         ensures bad_place { IfOk result (λ file. file.bad_place ≡ bad_place) }
     {
@@ -36,6 +37,21 @@ impl StoredFile {
             room,
             flushed: 0,
             bad_place,
+        })
+    }
+
+    /// An empty file with room for `capacity` bytes.
+    pub fn empty(alloc: Global, name: &str, capacity: u32) -> Result<Self, OutOfMemory>
+        ensures name { IfOk result (λ file. file.name ≡ name.now) }
+        ensures room { IfOk result (λ file. file.room ≡ record { bytes = []; size = capacity }) }
+        ensures unflushed { IfOk result (λ file. file.flushed ≡ 0) }
+        ensures no_bad_place { IfOk result (λ file. file.bad_place ≡ None) }
+    {
+        Ok(StoredFile {
+            name: copy_of(alloc, name.as_bytes())?,
+            room: Room::new(alloc, capacity as usize)?,
+            flushed: 0,
+            bad_place: None,
         })
     }
 }

@@ -5,18 +5,23 @@ ghost use Rattle.xio.specs.Told.{told_none};
 
 use crate::failed::Failed;
 use crate::files::{FileFault, Files};
+use crate::real::again::{flush_again, read_again, write_again};
+use crate::real::identity::Identity;
 use crate::real::slot::Slot;
 use lists::OutOfMemory;
 use std::alloc::Global;
-use std::fs::File;
-use std::io::{Read, Write};
+use std::fs::{File, OpenFile, OpenOptions};
+use std::io;
 use std::rt::Files as System;
 
-/// The files of the system.
+/// The files of the system. A call that a signal interrupts is made again. A file that was opened, by whatever name, is not
+/// made: `make_file` leaves it as it is and fails.
 #[derive(Drop)]
 pub struct RealFiles<R: System + Drop> {
     system: R,
     slots: Vec<Slot<R::File>>,
+    /// The files that were opened.
+    opened: Vec<Identity>,
     read_faults: u64,
     write_faults: u64,
 }
@@ -30,6 +35,7 @@ impl<R: System + Drop> RealFiles<R> {
         RealFiles {
             system,
             slots: Vec::new(alloc),
+            opened: Vec::new(alloc),
             read_faults: 0,
             write_faults: 0,
         }
@@ -49,16 +55,18 @@ impl<R: System + Drop> Files for RealFiles<R> {
 
     fn open_file(&mut self, name: &str) -> Result<u32, FileFault> {
         reserve(&mut self.slots)?;
-        let Ok(file) = File::open(&self.system, name) else {
+        reserve_one(&mut self.opened)?;
+        let Ok((file, identity)) = open(&self.system, name) else {
             self.read_faults = self.read_faults.saturating_add(1);
             return Err(FileFault::Failed);
         };
+        self.opened.push_reserved(identity);
         Ok(give(&mut self.slots, Slot::Opened(file)))
     }
 
     fn make_file(&mut self, name: &str) -> Result<u32, FileFault> {
         reserve(&mut self.slots)?;
-        let Ok(file) = File::create(&self.system, name) else {
+        let Ok(file) = make(&self.system, name, self.opened.as_slice()) else {
             self.write_faults = self.write_faults.saturating_add(1);
             return Err(FileFault::Failed);
         };
@@ -69,42 +77,70 @@ impl<R: System + Drop> Files for RealFiles<R> {
         let Slot::Opened(opened) = &mut self.slots[file as usize] else {
             unreachable!()
         };
-        match opened.read(buffer) {
-            Ok(taken) => Ok(taken),
-            Err(_) => {
-                self.read_faults = self.read_faults.saturating_add(1);
-                Err(Failed)
-            }
+        let result = read_again(opened, buffer);
+        if result.is_err() {
+            self.read_faults = self.read_faults.saturating_add(1);
         }
+        result
     }
 
     fn write(&mut self, file: u32, piece: &[u8]) -> Result<usize, Failed> {
         let Slot::Made(made) = &mut self.slots[file as usize] else {
             unreachable!()
         };
-        match made.write(piece) {
-            Ok(taken) if taken > 0 || piece.is_empty() => Ok(taken),
-            _ => {
-                self.write_faults = self.write_faults.saturating_add(1);
-                Err(Failed)
-            }
+        let result = write_again(made, piece);
+        if result.is_err() {
+            self.write_faults = self.write_faults.saturating_add(1);
         }
+        result
     }
 
     fn flush(&mut self, file: u32) -> Result<(), Failed> {
         let Slot::Made(made) = &mut self.slots[file as usize] else {
             unreachable!()
         };
-        if made.flush().is_err() {
+        let result = flush_again(made);
+        if result.is_err() {
             self.write_faults = self.write_faults.saturating_add(1);
-            return Err(Failed);
         }
-        Ok(())
+        result
     }
 
     fn close(&mut self, file: u32) {
         self.slots[file as usize] = Slot::Closed;
     }
+}
+
+/// Opens a file and says which it is.
+fn open<R: System>(system: &R, name: &str) -> io::Result<(R::File, Identity)> {
+    let file = File::open(system, name)?;
+    let identity = Identity::of(&file.metadata()?);
+    Ok((file, identity))
+}
+
+/// Makes a file that is none of these, or empties it. It is looked at before it is emptied.
+fn make<R: System>(system: &R, name: &str, opened: &[Identity]) -> io::Result<R::File> {
+    let file = OpenOptions::new()
+        .write(true)
+        .create(true)
+        .open(system, name)?;
+    let metadata = file.metadata()?;
+    if opened.contains(&Identity::of(&metadata)) {
+        return Err(io::ErrorKind::ResourceBusy.into());
+    }
+    if metadata.is_file() {
+        file.set_len(0)?;
+    }
+    Ok(file)
+}
+
+/// Takes the room for one more item.
+fn reserve_one<T>(items: &mut Vec<T>) -> Result<(), OutOfMemory>
+    ensures same { items.new.items ≡ items.old.items }
+    ensures room { OnOk result (vec_len items.new < vec_capacity items.new) }
+{
+    items.reserve(1)?;
+    Ok(())
 }
 
 /// Takes the room for one more number.
@@ -116,8 +152,7 @@ fn reserve<F>(slots: &mut Vec<Slot<F>>) -> Result<(), OutOfMemory>
     if slots.len() > u32::MAX as usize {
         return Err(OutOfMemory);
     }
-    slots.reserve(1)?;
-    Ok(())
+    reserve_one(slots)
 }
 
 /// Gives the next number.

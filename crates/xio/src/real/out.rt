@@ -1,10 +1,11 @@
 ghost use Rattle.std.specs.Prelude.{◌≡◌, [], false};
 
 use crate::failed::Failed;
+use crate::real::again::{flush_again, write_again};
 use crate::sink::Sink;
 use std::io::Write;
 
-/// A writer of the system.
+/// A writer of the system. A call that a signal interrupts is made again.
 #[derive(Drop)]
 pub struct RealOut<W> {
     writer: W,
@@ -31,20 +32,18 @@ impl<W: Write> Sink for RealOut<W> {
     ghost setting = { λ _. tt };
 
     fn write(&mut self, piece: &[u8]) -> Result<usize, Failed> {
-        match self.writer.write(piece) {
-            Ok(taken) if taken > 0 || piece.is_empty() => Ok(taken),
-            _ => {
-                self.faults = self.faults.saturating_add(1);
-                Err(Failed)
-            }
+        let result = write_again(&mut self.writer, piece);
+        if result.is_err() {
+            self.faults = self.faults.saturating_add(1);
         }
+        result
     }
 
     fn flush(&mut self) -> Result<(), Failed> {
-        if self.writer.flush().is_err() {
+        let result = flush_again(&mut self.writer);
+        if result.is_err() {
             self.faults = self.faults.saturating_add(1);
-            return Err(Failed);
         }
-        Ok(())
+        result
     }
 }

@@ -1,6 +1,6 @@
-use Rattle.std.proofs.Common.{rules, true, false, [], ◌≡◌, Some, None, refl, ap, length, sym, ◌∙◌}
+use Rattle.std.proofs.Common.{rules, [], ◌≡◌, Some, None, refl, ap, length, sym, ◌∙◌}
 use Rattle.std.specs.Prelude.{position}
-use Rattle.xio.specs.Shelf.{has_name, flushed_of, content_of}
+use Rattle.xio.specs.Shelf.{has_name, setup_of, no_setup, flushed_of, content_of}
 use Rattle.xio.specs.Told.{set_named}
 use Rattle.xio.proofs.ShelfLemmas.{part_of-changed, part_of-kept, part_of-reached, part_of-missing, set_named-own}
 use Rattle.xio.proofs.memory.shelf.Shelf.flush.Goals as goal
@@ -25,6 +25,6 @@ returns-in_default-clause-flushed c =
     set_named-own (flushed_of files) c.args.name.now _
     (part_of-missing (λ file. file.flushed) 0 files c.args.name.now none ∙ sym (ap length (part_of-missing (λ file. file.room.bytes) [] files c.args.name.now none)))
 
-pub returns-in-Some-clause-there : goal.returns-in-Some-clause-there
-returns-in-Some-clause-there c =
-    part_of-kept (λ _. true) false _ c.args.name.now _ c.index_mut-file.result.now _ (search rules) c.index_mut-file.ensures.value refl refl
+pub returns-in-Some-clause-same_setups : goal.returns-in-Some-clause-same_setups
+returns-in-Some-clause-same_setups c =
+    part_of-kept setup_of no_setup _ c.args.name.now _ c.index_mut-file.result.now _ (search rules) c.index_mut-file.ensures.value refl refl

@@ -1,6 +1,6 @@
-use Rattle.std.proofs.Common.{rules, true, false, [], ◌≡◌, Some, None, refl}
+use Rattle.std.proofs.Common.{rules, [], ◌≡◌, Some, None, refl}
 use Rattle.std.specs.Prelude.{position}
-use Rattle.xio.specs.Shelf.{has_name}
+use Rattle.xio.specs.Shelf.{has_name, setup_of, no_setup}
 use Rattle.xio.proofs.ShelfLemmas.{part_of-set, part_of-push, name_same}
 use Rattle.xio.proofs.memory.shelf.Shelf.place.Goals as goal
 
@@ -24,12 +24,12 @@ returns-in-None-clause-flushed c =
     let none : position (has_name c.args.file.name) c.args.self.now.files.items ≡ None = search rules in
     rw c.push_reserved.ensures.items (part_of-push (λ file. file.flushed) 0 _ c.args.file.name c.args.file none refl)
 
-pub returns-in-Some-clause-there : goal.returns-in-Some-clause-there
-returns-in-Some-clause-there c =
+pub returns-in-Some-clause-setups : goal.returns-in-Some-clause-setups
+returns-in-Some-clause-setups c =
     let at : position (has_name c.args.file.name) c.args.self.now.files.items ≡ Some c.in-Some.index = search rules in
-    part_of-set (λ _. true) false _ c.args.file.name _ c.args.file at (name_same c.args.file.name)
+    part_of-set setup_of no_setup _ c.args.file.name _ c.args.file at (name_same c.args.file.name)
 
-pub returns-in-None-clause-there : goal.returns-in-None-clause-there
-returns-in-None-clause-there c =
+pub returns-in-None-clause-setups : goal.returns-in-None-clause-setups
+returns-in-None-clause-setups c =
     let none : position (has_name c.args.file.name) c.args.self.now.files.items ≡ None = search rules in
-    rw c.push_reserved.ensures.items (part_of-push (λ _. true) false _ c.args.file.name c.args.file none refl)
+    rw c.push_reserved.ensures.items (part_of-push setup_of no_setup _ c.args.file.name c.args.file none refl)

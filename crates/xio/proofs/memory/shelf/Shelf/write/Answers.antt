@@ -1,8 +1,8 @@
-use Rattle.std.proofs.Common.{rules, true, false, [], ◌≡◌, Some, refl, ap, sym, ◌∙◌, ◌++◌}
+use Rattle.std.proofs.Common.{rules, ℕ, true, [], ◌≡◌, Some, refl, ap, sym, ◌∙◌, ◌++◌}
 use Rattle.std.specs.Prelude.{position}
 use Rattle.std.proofs.lemmas.Bool.{OnTrue_at, OnTrue_from}
 use Rattle.xio.specs.Room.{RoomState}
-use Rattle.xio.specs.Shelf.{has_name, content_of}
+use Rattle.xio.specs.Shelf.{Setup, has_name, setup_of, no_setup, content_of}
 use Rattle.xio.specs.Told.{set_named}
 use Rattle.xio.proofs.ShelfLemmas.{part_of-changed, part_of-kept, part_of-reached}
 use Rattle.xio.proofs.memory.shelf.Shelf.write.Goals as goal
@@ -22,6 +22,7 @@ pub returns-clause-flushed : goal.returns-clause-flushed
 returns-clause-flushed c = OnTrue_from c.put.result _ (λ _.
     part_of-kept (λ file. file.flushed) 0 _ c.args.name.now _ c.index_mut-file.result.now _ (search rules) c.index_mut-file.ensures.value refl refl)
 
-pub returns-clause-there : goal.returns-clause-there
-returns-clause-there c =
-    part_of-kept (λ _. true) false _ c.args.name.now _ c.index_mut-file.result.now _ (search rules) c.index_mut-file.ensures.value refl refl
+pub returns-clause-same_setups : goal.returns-clause-same_setups
+returns-clause-same_setups c =
+    part_of-kept setup_of no_setup _ c.args.name.now _ c.index_mut-file.result.now _ (search rules) c.index_mut-file.ensures.value refl
+    (ap (λ (size : ℕ). let setup : Setup = record { there = true; room = size; bad_place = c.index_mut-file.result.now.bad_place } in setup) c.put.ensures.same_size)

@@ -1,0 +1,24 @@
+ghost use Rattle.std.specs.Prelude.{◌≤◌, length};
+
+use lists::{Bytes, List};
+
+/// A packet as it is handed in: its number among all packets of the run, from 0 in the order of hand-in, its time in
+/// nanoseconds, and its frame of 14 to 15,872 bytes.
+#[derive(Debug, Drop)]
+pub struct Packet {
+    pub id: u32,
+    pub timestamp: u64,
+    pub frame: Bytes,
+    pub ghost least: { 14 ≤ length frame },
+    pub ghost most: { length frame ≤ 15872 },
+}
+
+/// A packet that is handed in to a processor, and how many publications were accepted before.
+#[derive(Debug, Drop)]
+pub struct HandIn {
+    pub packet: Packet,
+    pub need: u32,
+}
+
+/// The packets that one processor is handed, in order.
+pub type HandInList = List<HandIn>;
