@@ -22,15 +22,24 @@ second_fault old new new' first second (WriteFault written) wrote writes within 
     writes ∙ ap (λ xs. xs ++ take (written - length first) second) wrote ∙ append_assoc old first (take (written - length first) second) ∙ ap (λ xs. old ++ xs) (sym front)
 second_fault old new new' first second OutOfMemory wrote writes within = absurd writes
 
--- both were written
-pub both_written : (old new new' first second : List ℕ) → new ≡ old ++ first → new' ≡ new ++ second → new' ≡ old ++ (first ++ second)
-both_written old new new' first second one two = two ∙ ap (λ xs. xs ++ second) one ∙ append_assoc old first second
+-- the second decides, where the first is written
+pub second_writes : (old new new' first second : List ℕ) (result : Result Unit PutEnd) → new ≡ old ++ first → WritesBehind (length first) new new' result second → StopsBetween (length first) (length first + length second) result
+    → Puts old new' result (first ++ second)
+second_writes old new new' first second (Ok _) wrote writes within = writes ∙ ap (λ xs. xs ++ second) wrote ∙ append_assoc old first second
+second_writes old new new' first second (Err end) wrote writes within = second_fault old new new' first second end wrote writes within
+
+pub second_stops : (first second : List ℕ) (result : Result Unit PutEnd) → StopsBetween (length first) (length first + length second) result → StopsBetween 0 (length (first ++ second)) result
+second_stops first second (Ok _) within = tt
+second_stops first second (Err (WriteFault written)) within = (omega arith, omega (arith, within.1, length-append first second))
+second_stops first second (Err OutOfMemory) within = tt
+
+-- one block alone
+pub one_writes : (old new block : List ℕ) (result : Result Unit PutEnd) → WritesBehind 0 old new result block → Puts old new result block
+one_writes old new block (Ok _) writes = writes
+one_writes old new block (Err (WriteFault written)) writes = writes
+one_writes old new block (Err OutOfMemory) writes = absurd writes
 
 -- a fault stops before the end of both
 pub stops_first : (first second : List ℕ) (end : PutEnd) → StopsBetween 0 (length first) (Err end) → StopsBetween 0 (length (first ++ second)) (Err end)
 stops_first first second (WriteFault written) within = (omega arith, omega (arith, within.1, length-append first second))
 stops_first first second OutOfMemory within = tt
-
-pub stops_second : (first second : List ℕ) (end : PutEnd) → StopsBetween (length first) (length first + length second) (Err end) → StopsBetween 0 (length (first ++ second)) (Err end)
-stops_second first second (WriteFault written) within = (omega arith, omega (arith, within.1, length-append first second))
-stops_second first second OutOfMemory within = tt

@@ -50,6 +50,21 @@ fn write_block<K: Sink>(sink: &mut K, block: &[u8], before: u64) -> Result<(), P
     }
 }
 
+/// Writes two blocks, one after the other.
+fn write_blocks<K: Sink>(sink: &mut K, first: &[u8], second: &[u8]) -> Result<(), PutEnd>
+    requires { length first.now + length second.now < 2 ^ 64 }
+    ensures held { IsTrue K.tells → Puts (K.held sink.old) (K.held sink.new) result (first.now ++ second.now) }
+    ensures within { StopsBetween 0 (length (first.now ++ second.now)) result }
+    ensures same_flushed { IsTrue K.tells → K.flushed sink.new ≡ K.flushed sink.old }
+    ensures cause { HasPutCause (K.faults sink.old) (K.faults sink.new) result }
+    ensures same_setting { K.setting sink.new ≡ K.setting sink.old }
+{
+    match write_block(sink, first, 0) {
+        Ok(()) => write_block(sink, second, first.len() as u64),
+        Err(end) => Err(end),
+    }
+}
+
 /// The interface block of a point.
 fn interface_block(alloc: Global, point: &Point) -> Result<Bytes, OutOfMemory>
     requires { length (if_name point.now) < 2 ^ 16 }
@@ -117,10 +132,13 @@ fn put_first<K: Sink>(
     let interface = interface_block(alloc, point)?;
     let packet = packet_block(alloc, keys.len() as u32, point)?;
     keys.reserve(1)?;
-    write_block(sink, interface.as_slice(), 0)?;
-    write_block(sink, packet.as_slice(), interface.as_slice().len() as u64)?;
-    keys.push_reserved(key);
-    Ok(())
+    match write_blocks(sink, interface.as_slice(), packet.as_slice()) {
+        Ok(()) => {
+            keys.push_reserved(key);
+            Ok(())
+        }
+        Err(end) => Err(end),
+    }
 }
 
 impl Capture {

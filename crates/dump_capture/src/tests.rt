@@ -62,3 +62,22 @@ fn one_interface_block_for_two_packets(rt: HostRuntime) -> Result<(), Fail> {
     assert_eq!(rt; sink.bytes(), wanted.as_slice());
     Ok(())
 }
+
+#[test]
+fn a_point_is_put_again_after_a_fault(rt: HostRuntime) -> Result<(), Fail> {
+    let fault = |written| Err(PutEnd::WriteFault { written });
+    let (sink, ends) = captured(rt.alloc(), &[2])?;
+    assert_eq!(rt; ends, [Ok(()), fault(0), Ok(())]);
+    let mut wanted = bytes_of(rt.alloc(), SECTION)?;
+    wanted.append(INTERFACE)?;
+    wanted.append(PACKET)?;
+    assert_eq!(rt; sink.bytes(), wanted.as_slice());
+    let (sink, ends) = captured(rt.alloc(), &[3])?;
+    assert_eq!(rt; ends, [Ok(()), fault(52), Ok(())]);
+    let mut wanted = bytes_of(rt.alloc(), SECTION)?;
+    wanted.append(INTERFACE)?;
+    wanted.append(INTERFACE)?;
+    wanted.append(PACKET)?;
+    assert_eq!(rt; sink.bytes(), wanted.as_slice());
+    Ok(())
+}

@@ -4,4 +4,5 @@ pub mod Filling
 pub mod Steps
 pub mod Walk
 pub mod Next
+pub mod Lengths
 pub mod ReadBack

@@ -1,5 +1,5 @@
 -- What a written block is to a reader.
-use Rattle.std.proofs.Common.{◌≡◌, ℕ, zero, suc, ◌+◌, ◌-◌, ◌*◌, ◌/◌, ◌%◌, ◌^◌, ◌<◌, ◌≤◌, Bool, true, false, not, cond, eqb, nat_lt, nat_le, IsTrue, slice_get, List, [], ◌∷◌, ◌++◌, take, drop, length, Option, Some, None, refl, ap, sym, ◌∙◌, append_assoc, arith}
+use Rattle.std.proofs.Common.{◌≡◌, ℕ, zero, suc, ◌+◌, ◌-◌, ◌*◌, ◌/◌, ◌%◌, ◌^◌, ◌<◌, ◌≤◌, Bool, true, false, not, cond, eqb, nat_lt, nat_le, IsTrue, slice_get, List, [], ◌∷◌, ◌++◌, take, drop, length, Option, Some, None, Result, Ok, Err, IfOk, OnOk, refl, ap, sym, subst, ◌∙◌, append_assoc, arith}
 use Rattle.std.proofs.lemmas.List.{append-nil, drop_at, length-append, length-take, length-take-le, take_at, take_all}
 use Rattle.std.proofs.lemmas.Grind.{common_steps}
 use Rattle.std.specs.Prelude.{codes, ◌&&◌}
@@ -23,32 +23,12 @@ use Rattle.pcapng_text.specs.Section.{Passes, Brings, block_outcome, body_outcom
 use Rattle.pcapng_text.specs.Packet.{enhanced_claim, frame_of, nanoseconds, packet_rules, time_of}
 use Rattle.pcapng_text.specs.declared.packet_block.Claim.{Claim}
 use Rattle.pcapng_text.specs.Reading.{Skips, Gives, TakesUpTo, at_start, block_step, capture_of, has_ended, head_of, reading, start_break, step, step_to}
-use Rattle.pcapng_text.specs.ReadBack.{Fits, IsPacketOf, ReadsAsInterface, ReadsAsPacket, ReadsAsSection, behind_interface, behind_packet, behind_section}
+use Rattle.pcapng_text.specs.ReadBack.{IsPacketOf, ReadsAsInterface, ReadsAsPacket, ReadsAsSection, StandsIn, behind_interface, behind_packet, behind_section}
 use Rattle.pcapng_text.specs.Written.{block_bytes, block_size, end_of_options, interface_bytes, interface_fields, interface_options, option_bytes, packet_bytes, packet_fields, packet_options, padding, section_bytes, section_fields, u32_bytes, u64_bytes, verdict_option}
+use Rattle.pcapng_text.proofs.Lengths.{length-block, length-option, padded-even, padded-le}
 use Rattle.pcapng_text.proofs.OptionsIn.{options_in_more}
 use Rattle.pcapng_text.proofs.Steps.{step-block}
 use Rattle.pcapng_text.proofs.Walk.{reading-gives, reading-skips}
-
--- a length that is padded
-pub padded-le : (size : ℕ) → (size ≤ padded size) × (padded size ≤ size + 3)
-unfolding padded
-padded-le size = (omega arith, omega arith)
-
-pub padded-even : (size : ℕ) → padded size % 4 ≡ 0
-unfolding padded
-padded-even size = omega arith
-
-pub length-padding : (size : ℕ) → length (padding size) + size ≡ padded size
-unfolding padding
-length-padding size =
-    let bounds = padded-le size in
-    simp length-take (omega (arith, bounds.0, bounds.1))
-
--- a written block has the length that it says
-pub length-block : (kind : ℕ) (fields content options : List ℕ) → length (block_bytes kind fields content options) ≡ block_size fields content options
-unfolding block_bytes block_size
-length-block kind fields content options =
-    simp length-append (omega (arith, length-padding (length content)))
 
 -- the first twelve bytes of a block that is no section header, in a little endian section
 module _ (place : ℕ) (endian : Endian) (head : List ℕ) (kind size : ℕ) (later : 0 < place) (is_little : endian ≡ Little) (long : length head ≡ 12)
@@ -99,7 +79,7 @@ module _ (kind : ℕ) (fields content options : List ℕ) (kind_fits : kind < 2 
   some_bytes = omega arith
 
   module _ (even : block_size fields content options % 4 ≡ 0) (bounded : block_size fields content options ≤ 16777216) (no_section : eqb kind 0x0A0D0D0A ≡ false)
-      (limit : ℕ) (before : Progress) (rest : List ℕ) (fits : Fits limit before (block_bytes kind fields content options)) where
+      (limit : ℕ) (before : Progress) (rest : List ℕ) (fits : StandsIn limit before (block_bytes kind fields content options)) where
     head_length : length (head_of (block_bytes kind fields content options ++ rest)) ≡ 12
     head_length = length-take-le 12 _ (omega (arith, length-append (block_bytes kind fields content options) rest, length-block kind fields content options, some_bytes))
 
@@ -126,11 +106,6 @@ module _ (kind : ℕ) (fields content options : List ℕ) (kind_fits : kind < 2 
         size (sym (size_is before.place before.endian head kind size fits.later fits.endian head_length (kind_at_head rest) no_section (size_at_head rest)))
         within
         ∙ rw (front, whole, last) refl
-
--- an option and its length
-pub length-option : (code : ℕ) (value : List ℕ) → length (option_bytes code value) ≡ 4 + padded (length value)
-unfolding option_bytes
-length-option code value = simp length-append (omega (arith, length-padding (length value)))
 
 pub option_code-written : (code : ℕ) (value rest : List ℕ) → code < 2 ^ 16 → option_code Little (option_bytes code value ++ rest) ≡ code
 unfolding option_code u16_at option_bytes
@@ -236,13 +211,13 @@ module _ (name : List ℕ) (snap : ℕ) (name_fits : length name < 2 ^ 16) (snap
       let long : nat_lt (length (interface_bytes name snap)) 20 ≡ false = grind (arith, length-interface) in
       rw (interface_kind, long, link_type, options_are, good_options name name_fits, resolution name name_fits, snap_at) refl
 
-  interface_step : (limit : ℕ) (before : Progress) (rest : List ℕ) → Fits limit before (interface_bytes name snap)
+  interface_step : (limit : ℕ) (before : Progress) (rest : List ℕ) → StandsIn limit before (interface_bytes name snap)
       → step limit before (interface_bytes name snap ++ rest) ≡ step_to before (before.place + block_size (interface_fields snap) [] (interface_options name)) Little (body_outcome Little before.interfaces (interface_bytes name snap))
   unfolding interface_bytes
   interface_step limit before rest fits =
-      let short = padded-le (length name) in
+      let short : padded (length name) ≤ length name + 3 = padded-le (length name) in
       let even = padded-even (length name) in
-      written-step 1 (interface_fields snap) [] (interface_options name) (omega arith) (omega (arith, interface_size, short.1)) (omega (arith, interface_size, even)) (omega (arith, interface_size, short.1)) refl limit before rest fits
+      written-step 1 (interface_fields snap) [] (interface_options name) (omega arith) (omega (arith, interface_size, short)) (omega (arith, interface_size, even)) (omega (arith, interface_size, short)) refl limit before rest fits
 
   pub interface-read_back : ReadsAsInterface snap (interface_bytes name snap)
   interface-read_back limit before rest fits =
@@ -266,7 +241,7 @@ unfolding capture_of
 section-read_back limit rest within =
     let size : length section_bytes ≡ 28 = length-section in
     reading-skips limit at_start (section_bytes ++ rest) (behind_section (length section_bytes)) rest
-    (taken_whole 0 section_bytes rest)
+    (record { taken = section_bytes; left = refl; counted = omega arith })
     (rw size (section_step limit rest (omega (arith, within, size))))
 
 verdict_length : (verdict : Option Action) → (length (verdict_option verdict) ≤ 16) × (length (verdict_option verdict) % 4 ≡ 0)
@@ -295,12 +270,12 @@ options_short told fits =
     let verdict = verdict_option told.verdict in
     let digits : length (decimal told.publication) ≤ 10 = length-decimal-le 10 told.publication (omega arith) (omega arith) (omega arith) in
     let texts : length text ≤ 22 = omega (arith, digits, length-append (codes "publication=") (decimal told.publication)) in
-    let short = padded-le (length text) in
+    let short : padded (length text) ≤ length text + 3 = padded-le (length text) in
     let even = padded-even (length text) in
     let asked = verdict_length told.verdict in
     let total : length (comment ++ id ++ queue ++ verdict ++ end_of_options) ≡ 28 + padded (length text) + length verdict =
     omega (arith, length-append (comment ++ id ++ queue ++ verdict) end_of_options, length-append (comment ++ id ++ queue) verdict, length-append (comment ++ id) queue, length-append comment id, length-option 1 text, id_length told.id, queue_length told.queue) in
-    (omega (arith, total, short.1, texts, asked.0), omega (arith, total, even, asked.1))
+    (omega (arith, total, short, texts, asked.0), omega (arith, total, even, asked.1))
 
 nanoseconds-exact : (time : ℕ) → nanoseconds 9 time ≡ time
 unfolding nanoseconds
@@ -362,14 +337,14 @@ module _ (interface timestamp original : ℕ) (kept : List ℕ) (told : PacketOp
       let early : nat_lt timestamp (2 ^ 64) ≡ true = grind (arith, time_fits) in
       rw (packet_kind, claim_is, frame_is, there, nanoseconds-exact timestamp, long, whole, least, most, early) refl
 
-  packet_step : (limit : ℕ) (before : Progress) (rest : List ℕ) → Fits limit before (packet_bytes interface timestamp original kept told)
+  packet_step : (limit : ℕ) (before : Progress) (rest : List ℕ) → StandsIn limit before (packet_bytes interface timestamp original kept told)
       → step limit before (packet_bytes interface timestamp original kept told ++ rest) ≡ step_to before (before.place + block_size (packet_fields interface timestamp (length kept) original) kept (packet_options told)) Little (body_outcome Little before.interfaces (packet_bytes interface timestamp original kept told))
   unfolding packet_bytes
   packet_step limit before rest fits =
-      let short = padded-le (length kept) in
+      let short : padded (length kept) ≤ length kept + 3 = padded-le (length kept) in
       let even = padded-even (length kept) in
       let few = options_short told publication_fits in
-      written-step 6 (packet_fields interface timestamp (length kept) original) kept (packet_options told) (omega arith) (omega (arith, packet_size_is, short.1, few.0)) (omega (arith, packet_size_is, even, few.1)) (omega (arith, packet_size_is, short.1, few.0)) refl limit before rest fits
+      written-step 6 (packet_fields interface timestamp (length kept) original) kept (packet_options told) (omega arith) (omega (arith, packet_size_is, short, few.0)) (omega (arith, packet_size_is, even, few.1)) (omega (arith, packet_size_is, short, few.0)) refl limit before rest fits
 
 pub packet-read_back : (interface timestamp original : ℕ) (kept : List ℕ) (told : PacketOptions) → interface < 2 ^ 32 → timestamp < 2 ^ 64 → told.publication < 2 ^ 32 → ReadsAsPacket interface timestamp kept (packet_bytes interface timestamp original kept told)
 packet-read_back interface timestamp original kept told number_fits time_fits publication_fits limit before rest fits is_packet =
@@ -382,4 +357,18 @@ packet-read_back interface timestamp original kept told number_fits time_fits pu
     (record { timestamp = timestamp; frame = kept; end = before.place + length bytes })
     (packet_step interface timestamp original kept told number_fits time_fits publication_fits is_packet.bounded limit before rest fits ∙ rw (brings, size) refl)
 
-pub ruleset read_back = (section-read_back, interface-read_back, packet-read_back)
+-- what holds of certain bytes holds of an answer that gives them
+pub of_these : {E : Type 0} (P : List ℕ → Type 0) (bytes : List ℕ) (result : Result (List ℕ) E) → IfOk result (λ given. given ≡ bytes) → P bytes → IfOk result P
+of_these P bytes (Ok given) same holds = subst P (sym same) holds
+of_these P bytes (Err e) same holds = tt
+
+pub packet_of_these : {E : Type 0} (interface timestamp original : ℕ) (kept : List ℕ) (told : PacketOptions) (result : Result (List ℕ) E) → interface < 2 ^ 32 → timestamp < 2 ^ 64 → OnOk result (told.publication < 2 ^ 32)
+    → IfOk result (λ given. given ≡ packet_bytes interface timestamp original kept told) → IfOk result (ReadsAsPacket interface timestamp kept)
+packet_of_these interface timestamp original kept told (Ok given) number_fits time_fits publication_fits same =
+    subst (ReadsAsPacket interface timestamp kept) (sym same) (packet-read_back interface timestamp original kept told number_fits time_fits publication_fits)
+packet_of_these interface timestamp original kept told (Err e) number_fits time_fits publication_fits same = tt
+
+-- an answer of some bytes is one of the same bytes
+pub of_same : {E : Type 0} (given wanted : List ℕ) (result : Result (List ℕ) E) → IfOk result (λ bytes. bytes ≡ given) → given ≡ wanted → IfOk result (λ bytes. bytes ≡ wanted)
+of_same given wanted (Ok bytes) same is = same ∙ is
+of_same given wanted (Err e) same is = tt

@@ -14,7 +14,7 @@ abbrev pub ReadsAsSection : List ℕ → Type 0
 ReadsAsSection bytes = (limit : ℕ) (rest : List ℕ) → length bytes ≤ limit → capture_of limit (bytes ++ rest) ≡ reading limit (behind_section (length bytes)) rest
 
 -- a written block stands in a little endian section, and within the limit
-pub record Fits (limit : ℕ) (before : Progress) (bytes : List ℕ) : Type 0 where
+pub record StandsIn (limit : ℕ) (before : Progress) (bytes : List ℕ) : Type 0 where
   pub later : 0 < before.place
   pub endian : before.endian ≡ Little
   pub within : before.place + length bytes ≤ limit
@@ -29,7 +29,7 @@ behind_interface before snap size = record {
 
 abbrev pub ReadsAsInterface : ℕ → List ℕ → Type 0
 ReadsAsInterface snap bytes =
-    (limit : ℕ) (before : Progress) (rest : List ℕ) → Fits limit before bytes
+    (limit : ℕ) (before : Progress) (rest : List ℕ) → StandsIn limit before bytes
     → reading limit before (bytes ++ rest) ≡ reading limit (behind_interface before snap (length bytes)) rest
 
 -- a packet of a written interface, in nanoseconds
@@ -44,6 +44,6 @@ behind_packet before size = record { place = before.place + size; endian = Littl
 
 abbrev pub ReadsAsPacket : ℕ → ℕ → List ℕ → List ℕ → Type 0
 ReadsAsPacket number timestamp kept bytes =
-    (limit : ℕ) (before : Progress) (rest : List ℕ) → Fits limit before bytes → IsPacketOf before number kept
+    (limit : ℕ) (before : Progress) (rest : List ℕ) → StandsIn limit before bytes → IsPacketOf before number kept
     → reading limit before (bytes ++ rest)
     ≡ prepend (record { timestamp = timestamp; frame = kept; end = before.place + length bytes }) (reading limit (behind_packet before (length bytes)) rest)

@@ -59,24 +59,27 @@ interface_options name = option_bytes 2 name ++ option_bytes 9 (9 ∷ []) ++ end
 unfoldable pub interface_bytes : List ℕ → ℕ → List ℕ
 interface_bytes name snap = block_bytes 1 (interface_fields snap) [] (interface_options name)
 
--- a packet of an interface: its time in two halves, the bytes that are kept, and the length of the whole packet
+-- a packet of an interface: its time in two halves, how many bytes are kept, and the length of the whole packet
+abbrev pub fields_of : ℕ → ℕ → ℕ → ℕ → ℕ → List ℕ
+fields_of interface upper lower kept size =
+    u32_bytes interface ++ u32_bytes upper ++ u32_bytes lower ++ u32_bytes kept ++ u32_bytes size
+
 abbrev pub packet_fields : ℕ → ℕ → ℕ → ℕ → List ℕ
-packet_fields interface timestamp kept size =
-    u32_bytes interface
-    ++ u32_bytes (timestamp / 2 ^ 32)
-    ++ u32_bytes (timestamp % 2 ^ 32)
-    ++ u32_bytes kept
-    ++ u32_bytes size
+packet_fields interface timestamp kept size = fields_of interface (timestamp / 2 ^ 32) (timestamp % 2 ^ 32) kept size
 
 -- epb_verdict of the kind Linux XDP action (2)
 abbrev pub verdict_option : Option Action → List ℕ
 verdict_option (Some action) = option_bytes 7 (2 ∷ u64_bytes (number action))
 verdict_option None = []
 
+-- the number of publications, as a comment
+abbrev pub comment : ℕ → List ℕ
+comment publication = codes "publication=" ++ decimal publication
+
 -- opt_comment, epb_packetid, epb_queue and epb_verdict
 unfoldable pub packet_options : PacketOptions → List ℕ
 packet_options options =
-    option_bytes 1 (codes "publication=" ++ decimal options.publication)
+    option_bytes 1 (comment options.publication)
     ++ option_bytes 5 (u64_bytes options.id)
     ++ option_bytes 6 (u32_bytes options.queue)
     ++ verdict_option options.verdict

@@ -196,14 +196,18 @@ impl Blocks {
         ensures same_setting { S.setting source.new ≡ S.setting source.old }
     {
         self.is_live = false;
-        let packet = next_packet(
+        match next_packet(
             self.alloc,
             self.limit,
             &mut self.progress,
             &mut self.buffer,
             source,
-        )?;
-        self.is_live = true;
-        Ok(packet)
+        ) {
+            Ok(packet) => {
+                self.is_live = true;
+                Ok(packet)
+            }
+            Err(end) => Err(end),
+        }
     }
 }

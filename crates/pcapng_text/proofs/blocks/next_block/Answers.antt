@@ -1,4 +1,4 @@
-use Rattle.std.proofs.Common.{◌≡◌, ℕ, ◌++◌, List, take, drop, true, false, arith, ap, sym, ◌∙◌}
+use Rattle.std.proofs.Common.{◌≡◌, ℕ, ◌++◌, List, take, drop, true, false, Err, arith, ap, sym, ◌∙◌}
 use Rattle.std.proofs.lemmas.Result.{err_from_is_err_and}
 use Rattle.pcapng_text.specs.Reading.{block_step, has_ended, head_of, step}
 use Rattle.pcapng_text.proofs.Next.{came-head, came-rest, ended-left, ended-rest, ended-step, ended-taken, enough, fault_early, fault_later, finished, head-rest, refused, started, starts-same}
@@ -38,7 +38,7 @@ returns-in_err-start-clause-step g c told =
     let head : c.fill.new.self ≡ head_of rest = came-head _ _ _ c.clear.ensures (c.in_ok-fill.ensures.bytes told) in
     let on : has_ended c.args.progress.now.place c.fill.new.self ≡ false = ap (has_ended c.args.progress.now.place) (sym c.as_slice.ensures) ∙ sym c.has_ended.ensures ∙ c.if-has_ended.false in
     let p = err_from_is_err_and c.from_residual-in_err-start.result c.from_residual-in_err-start.ensures.1 in
-    let starts = starts-same c.args.limit c.args.progress.now _ _ _ c.as_slice-2.ensures c.in_err-start.ensures.start in
+    let starts = starts-same c.args.limit c.args.progress.now _ _ (Err c.in_err-start.field-0.0) c.as_slice-2.ensures c.in_err-start.ensures.start in
     rw (p.1, p.2) (refused c.args.limit c.args.progress.now c.fill.new.self rest head on c.in_err-start.field-0.0 c.args.progress.now starts)
 
 pub returns-in_err-fill-2-clause-fault : goal.returns-in_err-fill-2-clause-fault

@@ -1,5 +1,5 @@
 use Rattle.std.proofs.Common.{rules, ◌∙◌, arith}
-use Rattle.pcapng_text.specs.Reading.{Whole}
+use Rattle.pcapng_text.specs.Reading.{Whole, reading}
 use Rattle.pcapng_text.proofs.Next.{read_end, same-fault}
 use Rattle.pcapng_text.proofs.Walk.{reading-gives, reading-skips, reading-stops, stops_before, takes_more}
 use Rattle.pcapng_text.proofs.blocks.next_packet.Goals as goal
@@ -32,7 +32,8 @@ returns-in-Ok-Packet-clause-taken g c told = takes_more (c.loop-packet.invariant
 
 pub returns-in-Err-clause-packet : goal.returns-in-Err-clause-packet
 returns-in-Err-clause-packet g c told =
-    read_end c.args.limit c.loop-packet.progress c.next_block.new.progress _ _ _ _ c.in-Err.end (c.loop-packet.invariant.same told) (c.in-Err.ensures.step told)
+    read_end c.args.limit c.loop-packet.progress c.next_block.new.progress _ (reading c.args.limit c.args.progress.now (g.S.Source.rest c.args.source.now))
+    (reading c.args.limit c.next_block.new.progress (g.S.Source.rest c.next_block.new.source)) c.next_block.new.progress.place c.in-Err.end (c.loop-packet.invariant.same told) (c.in-Err.ensures.step told)
 
 pub returns-in-Err-clause-fault : goal.returns-in-Err-clause-fault
 returns-in-Err-clause-fault g c told fault =
