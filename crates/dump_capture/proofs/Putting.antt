@@ -1,0 +1,45 @@
+-- Two blocks that are written one after the other.
+use Rattle.std.proofs.Common.{◌≡◌, ℕ, ◌+◌, ◌-◌, ◌<◌, ◌≤◌, List, ◌++◌, take, length, Ok, Err, Result, refl, ap, sym, ◌∙◌, append_assoc, arith}
+use Rattle.std.proofs.lemmas.List.{length-append, take-append-le}
+use Rattle.std.proofs.Math.Seq.{take-append-add}
+use Rattle.dump_capture.specs.declared.put_end.PutEnd.{PutEnd}
+use Rattle.dump_capture.specs.declared.put_end.PutEnd.TheVariants.{WriteFault, OutOfMemory}
+use Rattle.dump_capture.specs.Capture.{Puts, StopsBetween, WritesBehind}
+
+-- a fault in the first block
+pub first_fault : (old new first second : List ℕ) (end : PutEnd) → WritesBehind 0 old new (Err end) first → StopsBetween 0 (length first) (Err end) → Puts old new (Err end) (first ++ second)
+first_fault old new first second (WriteFault written) writes within =
+    writes ∙ ap (λ xs. old ++ xs) (sym (take-append-le written first second (omega (arith, within.1))))
+first_fault old new first second OutOfMemory writes within = absurd writes
+
+-- and one in the second
+pub second_fault : (old new new' first second : List ℕ) (end : PutEnd) → new ≡ old ++ first → WritesBehind (length first) new new' (Err end) second → StopsBetween (length first) (length first + length second) (Err end)
+    → Puts old new' (Err end) (first ++ second)
+second_fault old new new' first second (WriteFault written) wrote writes within =
+    let place : length first + (written - length first) ≡ written = omega (arith, within.0) in
+    let front : take written (first ++ second) ≡ first ++ take (written - length first) second =
+    ap (λ n. take n (first ++ second)) (sym place) ∙ take-append-add first second (written - length first) in
+    writes ∙ ap (λ xs. xs ++ take (written - length first) second) wrote ∙ append_assoc old first (take (written - length first) second) ∙ ap (λ xs. old ++ xs) (sym front)
+second_fault old new new' first second OutOfMemory wrote writes within = absurd writes
+
+-- the second decides, where the first is written
+pub second_writes : (old new new' first second : List ℕ) (result : Result Unit PutEnd) → new ≡ old ++ first → WritesBehind (length first) new new' result second → StopsBetween (length first) (length first + length second) result
+    → Puts old new' result (first ++ second)
+second_writes old new new' first second (Ok _) wrote writes within = writes ∙ ap (λ xs. xs ++ second) wrote ∙ append_assoc old first second
+second_writes old new new' first second (Err end) wrote writes within = second_fault old new new' first second end wrote writes within
+
+pub second_stops : (first second : List ℕ) (result : Result Unit PutEnd) → StopsBetween (length first) (length first + length second) result → StopsBetween 0 (length (first ++ second)) result
+second_stops first second (Ok _) within = tt
+second_stops first second (Err (WriteFault written)) within = (omega arith, omega (arith, within.1, length-append first second))
+second_stops first second (Err OutOfMemory) within = tt
+
+-- one block alone
+pub one_writes : (old new block : List ℕ) (result : Result Unit PutEnd) → WritesBehind 0 old new result block → Puts old new result block
+one_writes old new block (Ok _) writes = writes
+one_writes old new block (Err (WriteFault written)) writes = writes
+one_writes old new block (Err OutOfMemory) writes = absurd writes
+
+-- a fault stops before the end of both
+pub stops_first : (first second : List ℕ) (end : PutEnd) → StopsBetween 0 (length first) (Err end) → StopsBetween 0 (length (first ++ second)) (Err end)
+stops_first first second (WriteFault written) within = (omega arith, omega (arith, within.1, length-append first second))
+stops_first first second OutOfMemory within = tt

@@ -1,0 +1,25 @@
+-- Which interface block a captured packet stands behind.
+use Rattle.std.specs.Prelude.{ℕ, Bool, true, false, ◌==◌, ◌&&◌, List, ◌++◌, codes}
+use Rattle.std.specs.Bool.{beq}
+use Rattle.std.specs.Str.{bytes_eq}
+use Rattle.dump_capture.specs.declared.key.Key.{Key}
+use Rattle.dump_capture.specs.declared.point.Point.{Point}
+
+abbrev pub key_of : Point → Key
+key_of point = record { interface = point.interface; name = point.name; exit = point.exit; snap = point.snap }
+
+-- the interface block is that of the point
+unfoldable pub is_key_of : Point → Key → Bool
+is_key_of point key =
+    (key.snap == point.snap)
+    && beq key.exit point.exit
+    && bytes_eq key.interface point.interface
+    && bytes_eq key.name point.name
+
+abbrev pub side_text : Bool → List ℕ
+side_text true = codes "exit"
+side_text false = codes "entry"
+
+-- the name of the interface block: the interface, the program, and on which side of it
+unfoldable pub if_name : Point → List ℕ
+if_name point = point.interface ++ codes ":" ++ point.name ++ codes "()@" ++ side_text point.exit

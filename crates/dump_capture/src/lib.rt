@@ -1,0 +1,13 @@
+//! The capture that is written while programs run: each packet as it enters and leaves them.
+#![tactic(auto)]
+
+mod capture;
+mod key;
+mod point;
+mod put_end;
+#[cfg(test)]
+mod tests;
+
+pub use capture::Capture;
+pub use point::Point;
+pub use put_end::PutEnd;

@@ -1,0 +1,11 @@
+pub mod Endian
+pub mod Rule
+pub mod Options
+pub mod Start
+pub mod Interface
+pub mod Packet
+pub mod Section
+pub mod Buffer
+pub mod Reading
+pub mod Written
+pub mod ReadBack
