@@ -4,12 +4,14 @@ use Rattle.std.proofs.lemmas.List.{length-append, take-append-le}
 use Rattle.std.proofs.Math.Seq.{take-append-add}
 use Rattle.dump_capture.specs.declared.put_end.PutEnd.{PutEnd}
 use Rattle.dump_capture.specs.declared.put_end.PutEnd.TheVariants.{WriteFault, OutOfMemory}
-use Rattle.dump_capture.specs.Capture.{Puts, StopsBetween, WritesBehind}
+use Rattle.dump_capture.specs.Capture.{HasPutCause, Puts, StopsBetween, WritesBehind}
+use Rattle.xio.specs.Causes.{Rose}
 
 -- a fault in the first block
-pub first_fault : (old new first second : List ℕ) (end : PutEnd) → WritesBehind 0 old new (Err end) first → StopsBetween 0 (length first) (Err end) → Puts old new (Err end) (first ++ second)
+pub first_fault : (old new first second : List ℕ) (end : PutEnd) → WritesBehind 0 old new (Err end) first → StopsBetween 0 (0 + length first) (Err end) → Puts old new (Err end) (first ++ second)
 first_fault old new first second (WriteFault written) writes within =
-    writes ∙ ap (λ xs. old ++ xs) (sym (take-append-le written first second (omega (arith, within.1))))
+    let whole : written - 0 ≡ written = omega arith in
+    writes ∙ ap (λ n. old ++ take n first) whole ∙ ap (λ xs. old ++ xs) (sym (take-append-le written first second (omega (arith, within.1))))
 first_fault old new first second OutOfMemory writes within = absurd writes
 
 -- and one in the second
@@ -36,10 +38,20 @@ second_stops first second (Err OutOfMemory) within = tt
 -- one block alone
 pub one_writes : (old new block : List ℕ) (result : Result Unit PutEnd) → WritesBehind 0 old new result block → Puts old new result block
 one_writes old new block (Ok _) writes = writes
-one_writes old new block (Err (WriteFault written)) writes = writes
+one_writes old new block (Err (WriteFault written)) writes = let whole : written - 0 ≡ written = omega arith in writes ∙ ap (λ n. old ++ take n block) whole
 one_writes old new block (Err OutOfMemory) writes = absurd writes
 
 -- a fault stops before the end of both
-pub stops_first : (first second : List ℕ) (end : PutEnd) → StopsBetween 0 (length first) (Err end) → StopsBetween 0 (length (first ++ second)) (Err end)
+pub stops_first : (first second : List ℕ) (end : PutEnd) → StopsBetween 0 (0 + length first) (Err end) → StopsBetween 0 (length (first ++ second)) (Err end)
 stops_first first second (WriteFault written) within = (omega arith, omega (arith, within.1, length-append first second))
 stops_first first second OutOfMemory within = tt
+
+-- and within one block alone
+pub one_stops : (block : List ℕ) (result : Result Unit PutEnd) → StopsBetween 0 (0 + length block) result → StopsBetween 0 (length block) result
+one_stops block (Ok _) within = tt
+one_stops block (Err (WriteFault written)) within = (within.0, omega (arith, within.1))
+one_stops block (Err OutOfMemory) within = tt
+
+-- a fault of the sink is the call's
+pub fault-cause : (before now written : ℕ) → before ≤ now → Rose before now → HasPutCause before now (Err (WriteFault written))
+fault-cause before now written later rose = record { later = later; failed = λ _ _. rose; same = λ none. absurd (none written refl) }

@@ -23,7 +23,7 @@ pub struct Capture {
 }
 
 impl Model for Capture {
-    ghost use Rattle.std.specs.Prelude.{List, length};
+    ghost use Rattle.std.specs.Prelude.{◌^◌, ◌<◌, List, length};
     ghost use Rattle.dump_capture.specs.declared.key.Key.{Key};
 
     ghost Value = { List Key };

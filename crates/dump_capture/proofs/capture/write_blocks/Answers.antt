@@ -3,10 +3,10 @@ use Rattle.dump_capture.proofs.capture.write_blocks.Goals as goal
 
 pub returns-in-Ok-clause-held : goal.returns-in-Ok-clause-held
 returns-in-Ok-clause-held g c told =
-    second_writes _ _ _ c.args.first.now c.args.second.now _ (c.in-Ok.ensures.held told) (c.write_block-2.ensures.held told) c.write_block-2.ensures.within
+    second_writes _ _ _ c.args.first.now c.args.second.now _ (c.in-Ok.ensures.held told) (c.write_block-in-Ok.ensures.held told) c.write_block-in-Ok.ensures.within
 
 pub returns-in-Ok-clause-within : goal.returns-in-Ok-clause-within
-returns-in-Ok-clause-within g c = second_stops c.args.first.now c.args.second.now _ c.write_block-2.ensures.within
+returns-in-Ok-clause-within g c = second_stops c.args.first.now c.args.second.now _ c.write_block-in-Ok.ensures.within
 
 pub returns-in-Err-clause-held : goal.returns-in-Err-clause-held
 returns-in-Err-clause-held g c told =
