@@ -24,7 +24,7 @@ use Rattle.pcapng_text.specs.Packet.{enhanced_claim, frame_of, nanoseconds, pack
 use Rattle.pcapng_text.specs.declared.packet_block.Claim.{Claim}
 use Rattle.pcapng_text.specs.Reading.{Skips, Gives, TakesUpTo, at_start, block_step, capture_of, has_ended, head_of, reading, start_break, step, step_to}
 use Rattle.pcapng_text.specs.ReadBack.{IsPacketOf, ReadsAsInterface, ReadsAsPacket, ReadsAsSection, StandsIn, behind_interface, behind_packet, behind_section}
-use Rattle.pcapng_text.specs.Written.{block_bytes, block_size, end_of_options, interface_bytes, interface_fields, interface_options, option_bytes, packet_bytes, packet_fields, packet_options, padding, section_bytes, section_fields, u32_bytes, u64_bytes, verdict_option}
+use Rattle.pcapng_text.specs.Written.{block_bytes, block_size, end_of_options, interface_bytes, interface_fields, interface_options, option_bytes, packet_bytes, packet_fields, packet_options, packet_size, padding, section_bytes, section_fields, u32_bytes, u64_bytes, verdict_option}
 use Rattle.pcapng_text.proofs.Lengths.{length-block, length-option, padded-even, padded-le}
 use Rattle.pcapng_text.proofs.OptionsIn.{options_in_more}
 use Rattle.pcapng_text.proofs.Steps.{step-block}
@@ -276,6 +276,15 @@ options_short told fits =
     let total : length (comment ++ id ++ queue ++ verdict ++ end_of_options) ≡ 28 + padded (length text) + length verdict =
     omega (arith, length-append (comment ++ id ++ queue ++ verdict) end_of_options, length-append (comment ++ id ++ queue) verdict, length-append (comment ++ id) queue, length-append comment id, length-option 1 text, id_length told.id, queue_length told.queue) in
     (omega (arith, total, short, texts, asked.0), omega (arith, total, even, asked.1))
+
+-- the block of a packet has at most 135 bytes more than are kept
+pub packet_size-short : (kept : List ℕ) (told : PacketOptions) → told.publication < 2 ^ 32 → packet_size kept told ≤ length kept + 135
+unfolding packet_size
+packet_size-short kept told fits = let few = options_short told fits in omega (arith, few.0, padded-le (length kept))
+
+-- so it fits 32 bits, where that is far from 4 GiB
+pub packet-fits : (kept : List ℕ) (told : PacketOptions) → told.publication < 2 ^ 32 → length kept ≤ 2 ^ 31 → packet_size kept told < 2 ^ 32
+packet-fits kept told fits few = omega (arith, packet_size-short kept told fits)
 
 nanoseconds-exact : (time : ℕ) → nanoseconds 9 time ≡ time
 unfolding nanoseconds
