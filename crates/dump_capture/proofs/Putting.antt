@@ -2,6 +2,7 @@
 use Rattle.std.proofs.Common.{◌≡◌, ℕ, ◌+◌, ◌-◌, ◌<◌, ◌≤◌, List, [], ◌∷◌, ◌++◌, take, length, Some, None, Ok, Err, Result, refl, ap, sym, ◌∙◌, append_assoc, arith, Bool, true, false, if◌then◌else◌}
 use Rattle.std.proofs.lemmas.List.{length-append, take-append-le}
 use Rattle.std.proofs.Math.Seq.{take-append-add}
+use Rattle.pcapng_text.proofs.ReadBack.{packet-fits}
 use Rattle.dump_capture.specs.declared.put_end.PutEnd.{PutEnd}
 use Rattle.dump_capture.specs.declared.put_end.PutEnd.TheVariants.{WriteFault, OutOfMemory}
 use Rattle.dump_capture.specs.Capture.{HasPutCause, Puts, StopsBetween, WritesBehind, blocks_at, blocks_of, interface_block, keys_after, keys_at, number_of, packet_block}
@@ -85,3 +86,6 @@ chosen_same false keys known same = refl
 pub chosen_alike : (ok : Bool) (more more' keys keys' : List Key) → more ≡ more' → keys ≡ keys' → (if ok then more else keys) ≡ (if ok then more' else keys')
 chosen_alike true more more' keys keys' same_more same = same_more
 chosen_alike false more more' keys keys' same_more same = same
+
+-- a packet of few bytes has a block whose length fits
+pub ruleset fitting = (packet-fits)

@@ -1,3 +1,7 @@
+ghost use Rattle.std.specs.Prelude.{◌≡◌, ◌<◌, ◌^◌, IfOk, length};
+ghost use Rattle.pcapng_text.specs.Written.{packet_size};
+ghost use Rattle.dump_capture.specs.Key.{if_name};
+
 use super::*;
 use lists::Bytes;
 use pcapng_text::PacketOptions;
@@ -16,13 +20,19 @@ const INTERFACE: &[u8; 52] =
 const PACKET: &[u8; 92] =
     b"\x06\0\0\0\x5c\0\0\0\0\0\0\0\0\0\0\0\0\x09\x3d\0\x0e\0\0\0\x0e\0\0\0\x02\0\0\0\0\x01\x02\0\0\0\0\x02\x88\xb5\0\0\x01\0\x0d\0publication=2\0\0\0\x05\0\x08\0\0\0\0\0\0\0\0\0\x06\0\x04\0\0\0\0\0\0\0\0\0\x5c\0\0\0";
 
-fn bytes_of(alloc: Global, bytes: &[u8]) -> Result<Bytes, OutOfMemory> {
+fn bytes_of(alloc: Global, bytes: &[u8]) -> Result<Bytes, OutOfMemory>
+    ensures { IfOk result (λ copy. copy ≡ bytes.now) }
+{
     let mut copy = Bytes::new(alloc);
     copy.append(bytes)?;
     Ok(copy)
 }
 
-fn point(alloc: Global) -> Result<Point, OutOfMemory> {
+#[tactic(auto, using(crate::proofs::Putting::fitting), unfolding(crate::specs::Key::if_name))]
+fn point(alloc: Global) -> Result<Point, OutOfMemory>
+    ensures name { IfOk result (λ point. length (if_name point) < 2 ^ 16) }
+    ensures size { IfOk result (λ point. packet_size point.kept point.options < 2 ^ 32) }
+{
     Ok(Point {
         interface: bytes_of(alloc, b"eth0")?,
         name: bytes_of(alloc, b"a")?,
