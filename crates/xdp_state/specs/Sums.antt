@@ -93,5 +93,10 @@ past_with past carried = record {
   all = past.all ++ packets_of carried;
 }
 
-abbrev pub sums_of : Past → RunSums
-sums_of past = record { by_processor = map tally_of past.by_processor; all = tally_of past.all }
+-- once this phase was added: each processor's sums with it, and those over all processors before it and of it
+abbrev pub sums_of : Past → List (List Carried) → RunSums
+sums_of past phase = record {
+  by_processor = map tally_of (joined past.by_processor phase);
+  before = tally_of past.all;
+  latest = tally_of (packets_of phase);
+}

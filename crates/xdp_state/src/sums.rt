@@ -1,5 +1,6 @@
 ghost use Rattle.std.specs.Prelude.{◌≡◌, ◌<◌, List, [], ◌++◌, length, map, replicate, slice_get, Some, vec_len, IfOk, OnOk};
 ghost use Rattle.xdp_state.specs.Sums.{Counted, Past, counted, sums_of, no_past, past_with, joined, packets_of, tally_of};
+ghost use Rattle.xdp_state.specs.declared.carried.Carried.{Carried};
 
 use crate::carried::{Carried, CarriedList};
 use crate::tally::Tally;
@@ -7,11 +8,13 @@ use std::alloc::Global;
 use std::marker::Model;
 use xio::OutOfMemory;
 
-/// The sums over the packets of the phases that have ended: by processor, and over all of them.
+/// The sums over the packets of the phases that have ended: by processor, and over all of them, with the last phase apart,
+/// since a table in its text shows those before it.
 #[derive(Debug, Drop)]
 pub struct Sums {
     by_processor: Vec<Tally>,
-    all: Tally,
+    before: Tally,
+    latest: Tally,
 }
 
 impl Model for Sums {
@@ -26,11 +29,12 @@ impl Model for Sums {
 impl Sums {
     /// No packets, of so many processors.
     pub fn new(alloc: Global, processors: u32) -> Result<Self, OutOfMemory>
-        ensures { IfOk result (λ sums. sums ≡ sums_of (no_past processors)) }
+        ensures { IfOk result (λ sums. sums ≡ sums_of (no_past processors) []) }
     {
         Ok(Sums {
             by_processor: no_tallies(alloc, processors)?,
-            all: Tally::new(alloc),
+            before: Tally::new(alloc),
+            latest: Tally::new(alloc),
         })
     }
 
@@ -49,22 +53,23 @@ impl Sums {
         &self.by_processor[processor]
     }
 
-    /// The sums of all processors.
-    pub fn all(&self) -> &Tally
-        ensures { result.now ≡ self.now.all }
+    /// The sums of all processors over the phases before the one that was added last.
+    pub fn before(&self) -> &Tally
+        ensures { result.now ≡ self.now.before }
     {
-        &self.all
+        &self.before
     }
 
-    /// Adds what the processors carried in a phase, in the time of its packets; there is a list for each processor. Where
-    /// memory is wanting a part may have been added.
-    pub fn add(&mut self, carried: &[CarriedList]) -> Result<(), OutOfMemory>
-        ensures sums { (past : Past) → self.old ≡ sums_of past
-            → OnOk result (self.new ≡ sums_of (past_with past carried.now)) }
+    /// Adds what the processors carried in a phase, in the time of its packets and of those of the phase before; there is a
+    /// list for each processor. Where memory is wanting a part may have been added.
+    pub fn add(&mut self, alloc: Global, carried: &[CarriedList]) -> Result<(), OutOfMemory>
+        ensures sums { (past : Past) (last : List (List Carried)) → self.old ≡ sums_of past last
+            → OnOk result (self.new ≡ sums_of (past_with past last) carried.now) }
         ensures processors { length self.new.by_processor ≡ length self.old.by_processor }
     {
-        add_by_processor(&mut self.by_processor, carried)?;
-        add_all(&mut self.all, carried)
+        self.before.merge(&self.latest)?;
+        self.latest = sum_of(alloc, carried)?;
+        add_by_processor(&mut self.by_processor, carried)
     }
 }
 
@@ -92,15 +97,15 @@ fn add_by_processor(tallies: &mut Vec<Tally>, carried: &[CarriedList]) -> Result
     Ok(())
 }
 
-/// Adds the packets of all processors.
-fn add_all(tally: &mut Tally, carried: &[CarriedList]) -> Result<(), OutOfMemory>
-    ensures { (before : List Counted) → tally.old ≡ tally_of before
-        → OnOk result (tally.new ≡ tally_of (before ++ packets_of carried.now)) }
+/// The sums over the packets of all processors.
+fn sum_of(alloc: Global, carried: &[CarriedList]) -> Result<Tally, OutOfMemory>
+    ensures { IfOk result (λ tally. tally ≡ tally_of (packets_of carried.now)) }
 {
+    let mut tally = Tally::new(alloc);
     for packets in carried {
-        add_packets(tally, packets.as_slice())?;
+        add_packets(&mut tally, packets.as_slice())?;
     }
-    Ok(())
+    Ok(tally)
 }
 
 fn add_packets(tally: &mut Tally, packets: &[Carried]) -> Result<(), OutOfMemory>
@@ -130,7 +135,7 @@ mod tests {
                 one(alloc, handed, Action::Pass)?,
                 one(alloc, 100, Action::Drop)?,
             ];
-            sums.add(&carried)?;
+            sums.add(alloc, &carried)?;
         }
         Ok(sums)
     }
@@ -152,7 +157,7 @@ mod tests {
     }
 
     #[test]
-    fn adds_up_by_processor_and_over_all(rt: HostRuntime) -> Result<(), Fail> {
+    fn adds_up_by_processor_and_over_the_phases_before(rt: HostRuntime) -> Result<(), Fail> {
         let sums = two_phases(rt.alloc())?;
         let mut bytes = [[0; 5]; 3];
         for processor in 0..2 {
@@ -160,11 +165,11 @@ mod tests {
                 bytes[processor] = sums.of(processor).bytes;
             }
         }
-        bytes[2] = sums.all().bytes;
+        bytes[2] = sums.before().bytes;
         assert_eq!(rt; bytes[0], [0, 0, 74, 0, 0]);
         assert_eq!(rt; bytes[1], [0, 200, 0, 0, 0]);
-        assert_eq!(rt; bytes[2], [0, 200, 74, 0, 0]);
-        assert_eq!(rt; sums.all().packets, [0, 2, 2, 0, 0]);
+        assert_eq!(rt; bytes[2], [0, 100, 14, 0, 0]);
+        assert_eq!(rt; sums.before().packets, [0, 1, 1, 0, 0]);
         Ok(())
     }
 }

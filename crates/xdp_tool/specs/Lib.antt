@@ -1,4 +1,5 @@
 pub mod Carrying
+pub mod Closing
 pub mod Ending
 pub mod Headline
 pub mod Named

@@ -16,6 +16,6 @@ EndsChoices (Err OutOfMemory) old new counts = new ≡ old
 EndsChoices _ old new counts = new ≡ old ++ counts ∷ []
 
 -- the text stands whole at `Ok`, and otherwise its front
-abbrev pub PutsText : {A : Type 0} → Result A Stop → List ℕ → List ℕ → List ℕ → Type 0
+abbrev pub PutsText : {A E : Type 0} → Result A E → List ℕ → List ℕ → List ℕ → Type 0
 PutsText (Ok _) old new text = new ≡ old ++ text
 PutsText (Err _) old new text = AppendsPrefix old new text

@@ -1,36 +1,48 @@
 -- How a run stands between two lines, at a phase's end, and what a phase leaves.
-use Rattle.std.specs.Prelude.{◌≡◌, ℕ, ◌≤◌, Bool, List, ◌∷◌, [], length, drop, map, Option, if◌then◌else◌}
+use Rattle.std.specs.Prelude.{◌≡◌, ℕ, ◌≤◌, List, ◌∷◌, [], length, drop, Option}
 use Rattle.script_text.specs.declared.what.Line.{Line}
 use Rattle.xdp_state.specs.Book.{after}
-use Rattle.xdp_state.specs.Sums.{Past, past_with, sums_of}
+use Rattle.xdp_state.specs.Sums.{Past, past_with}
 use Rattle.xdp_state.specs.Traversals.{Standing, carried_in}
 use Rattle.xdp_state.specs.Work.{all_needs}
 use Rattle.xdp_state.specs.declared.carried.Carried.{Carried}
 use Rattle.xdp_state.specs.declared.change.Change.{Change}
-use Rattle.xdp_state.specs.declared.interface.Interface.{Interface}
 use Rattle.xdp_tool.specs.Carrying.{StandsAt}
+use Rattle.xdp_tool.specs.Closing.{Shows}
 use Rattle.xdp_tool.specs.Plan.{Phase, closed, phases_from}
-use Rattle.xdp_tool.specs.QueueView.{queue_of}
 use Rattle.xdp_tool.specs.Queues.{queues_of}
-use Rattle.xdp_tool.specs.Texts.{phase_text}
-use Rattle.xdp_tool.specs.Trace.{traced_text}
 use Rattle.xdp_tool.specs.Walked.{Begun, IsAt, phases_behind}
-use Rattle.xdp_tool.specs.declared.run.Closed.{Closed}
 use Rattle.xdp_tool.specs.declared.run.Run.{Run}
+use Rattle.xdp_tool.specs.declared.shown.Shown.{Shown}
 
--- the tables show the rules after these publications, with the sums of what was carried; the state has more publications
-pub record Follows (run : Run) (past : Past) (shown published : List Change) : Type 0 where
-  pub state : run.state ≡ after published
-  pub rules : run.shown ≡ after shown
-  pub sums : run.sums ≡ sums_of past
-  pub queues : map queue_of run.queues.items ≡ queues_of run.walk.script.now.interfaces
-  pub processors : length past.by_processor ≡ length (queues_of run.walk.script.now.interfaces)
-
-pub record Stands (run : Run) (begun : Begun) (past : Past) (standings : List Standing) (phase : Phase) : Type 0 where
+-- the walk is at the phase, the state has its publications, and the carrier stands where the phase began; nothing waits to be
+-- written
+pub record IsUnderWay (run : Run) (begun : Begun) (standings : List Standing) (phase : Phase) : Type 0 where
   pub at : IsAt run.walk begun phase
-  pub follows : Follows run past begun.published phase.work.published
+  pub state : run.state ≡ after phase.work.published
   pub carrier : StandsAt run.carrier begun.published standings
   pub standing : length standings ≡ length (queues_of run.walk.script.now.interfaces)
+  pub interfaces : run.shown.interfaces.now ≡ run.walk.script.now.interfaces
+  pub waiting : run.buffer ≡ []
+
+-- the rules after these publications, and the sums of all that was carried
+pub record Rests (shown : Shown) (published : List Change) (past : Past) : Type 0 where
+  pub earlier : Past
+  pub carried : List (List Carried)
+  pub shows : Shows shown published earlier carried
+  pub counted : past ≡ past_with earlier carried
+
+pub record Stands (run : Run) (begun : Begun) (past : Past) (standings : List Standing) (phase : Phase) : Type 0 where
+  pub walks : IsUnderWay run begun standings phase
+  pub rests : Rests run.shown begun.published past
+
+-- a run of some phase
+pub record IsStanding (run : Run) : Type 0 where
+  pub begun : Begun
+  pub past : Past
+  pub standings : List Standing
+  pub phase : Phase
+  pub stands : Stands run begun past standings phase
 
 -- each line that was walked is a publication and a packet at most
 pub record HasRoom (run : Run) : Type 0 where
@@ -50,9 +62,3 @@ pub record Ends (run : Run) (begun : Begun) (past : Past) (standings : List Stan
 abbrev pub at_hand_in : List Standing → Phase → List (List Carried)
 at_hand_in standings phase =
     carried_in phase.work.published standings phase.work.hand_ins (all_needs phase.work.hand_ins)
-
-pub record Closes (done : Closed) (interfaces : List Interface) (traced : Bool) (number : ℕ) (past : Past)
-    (standings : List Standing) (phase : Phase) : Type 0 where
-  pub counts : done.counts ≡ all_needs phase.work.hand_ins
-  pub out : done.out ≡ phase_text interfaces phase past (past_with past (at_hand_in standings phase))
-  pub trace : done.trace ≡ traced_text traced number phase.barrier (at_hand_in standings phase)

@@ -8,6 +8,7 @@ ghost use Rattle.xdp_tool.specs.QueueView.{queue_of};
 
 use crate::processor::Processor;
 use crate::queue::Queue;
+use lists::List;
 use std::alloc::Global;
 use xdp_state::{CarriedList, Change, HandIn, HandInList, NeedsList, State};
 use xio::OutOfMemory;
@@ -38,10 +39,10 @@ impl Carrier {
         changes: &[Change],
         hand_ins: &[HandInList],
         counts: &NeedsList,
-    ) -> Result<Vec<CarriedList>, OutOfMemory>
+    ) -> Result<List<CarriedList>, OutOfMemory>
         ensures { (before : List Change) (standings : List Standing) → StandsAt self.old before standings
             → AllTaken (before ++ changes.now) → AreDue (length before) (length (before ++ changes.now)) standings hand_ins.now counts.now
-            → IfOk result (λ carried. Carries self.new carried.items (before ++ changes.now) standings hand_ins.now counts.now) }
+            → IfOk result (λ carried. Carries self.new carried (before ++ changes.now) standings hand_ins.now counts.now) }
     {
         carry_due(alloc, &self.state, &mut self.processors, hand_ins, counts)?;
         for change in changes {
@@ -128,12 +129,12 @@ fn carry_due_on(
 fn finish_all(
     alloc: Global,
     processors: &mut Vec<Processor>,
-) -> Result<Vec<CarriedList>, OutOfMemory>
-    ensures carried { IfOk result (λ carried. carried.items ≡ map (λ p. p.carried) processors.old.items) }
+) -> Result<List<CarriedList>, OutOfMemory>
+    ensures carried { IfOk result (λ carried. carried ≡ map (λ p. p.carried) processors.old.items) }
     ensures idle { (standings : List Standing) → AreStanding processors.old.items standings
         → OnOk result (AreIdle processors.new.items standings) }
 {
-    let mut carried = Vec::with_capacity(alloc, processors.len())?;
+    let mut carried = List::new(alloc);
     for place in 0..processors.len() {
         carried.push(processors[place].finish(alloc))?;
     }

@@ -2,6 +2,7 @@
 #![tactic(auto)]
 
 mod carrier;
+mod closed;
 mod ended;
 mod ending;
 mod item;
@@ -10,15 +11,18 @@ mod prepare;
 mod processor;
 mod queue;
 mod run;
+mod shown;
 mod tell;
 #[cfg(test)]
 mod tests;
 mod texts;
 mod tool;
+mod trace_texts;
 mod traced;
 mod turn;
 mod walk;
 mod words;
+mod write;
 
 pub use ended::Ended;
 pub use tool::run_tool;

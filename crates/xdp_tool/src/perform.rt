@@ -8,14 +8,15 @@ ghost use Rattle.xdp_state.specs.Work.{all_needs, plan_of};
 ghost use Rattle.xdp_tool.specs.Order.{AppendsWhole};
 ghost use Rattle.xdp_tool.specs.PhaseEnd.{EndsText, EndsChoices, PutsText};
 ghost use Rattle.xdp_tool.specs.Plan.{Phase, closed, has_refusal, next_of, plan, works_of};
-ghost use Rattle.xdp_tool.specs.Ran.{Stands, at_hand_in};
+ghost use Rattle.xdp_tool.specs.Ran.{IsStanding, Stands, at_hand_in};
 ghost use Rattle.xdp_tool.specs.Runnable.{IsRunnable};
 ghost use Rattle.xdp_tool.specs.Texts.{phase_text};
 ghost use Rattle.xdp_tool.specs.Trace.{first_line, traced_text};
 ghost use Rattle.xdp_tool.specs.Traversed.{out_for, trace_for, traces_for};
 ghost use Rattle.xdp_tool.specs.Walked.{Begun, begun_after};
 
-use crate::run::{Closed, Run};
+use crate::run::Run;
+use crate::write::write_phase;
 use script_text::Script;
 use std::alloc::Global;
 use xdp_state::Choices;
@@ -142,6 +143,7 @@ fn end_phase<O: Sink, T: Sink>(
     trace: &mut T,
     choices: &mut Choices,
 ) -> Result<(), Stop>
+    requires standing { IsStanding run.old }
     ensures stands { (begun : Begun) (past : Past) (standings : List Standing) (phase : Phase)
         → Stands run.old begun past standings phase → OnOk result (Stands run.new (begun_after begun phase)
         (past_with past (at_hand_in standings phase)) (standings_in phase.work.published standings phase.work.hand_ins
@@ -171,42 +173,14 @@ fn end_phase<O: Sink, T: Sink>(
     ensures same_out { O.setting out.new ≡ O.setting out.old }
     ensures same_trace { T.setting trace.new ≡ T.setting trace.old }
 {
-    let done = match run.close(alloc, choices.len(), barrier, traced) {
-        Ok(done) => done,
+    let closed = match run.close(alloc, barrier, choices) {
+        Ok(closed) => closed,
         Err(_) => return Err(Stop::OutOfMemory),
     };
-    let Closed {
-        counts,
-        out: text,
-        trace: trace_text,
-    } = done;
-    match choices.push(counts) {
-        Ok(()) => put_both(out, text.as_slice(), trace, trace_text.as_slice()),
-        Err(_) => Err(Stop::OutOfMemory),
+    match write_phase(&mut run.shown, &mut run.buffer, &closed, traced, out, trace) {
+        Ok(()) => Ok(()),
+        Err(_) => Err(Stop::Fault),
     }
-}
-
-/// Writes a text to out, and then one to the trace.
-fn put_both<O: Sink, T: Sink>(
-    out: &mut O,
-    text: &[u8],
-    trace: &mut T,
-    trace_text: &[u8],
-) -> Result<(), Stop>
-    ensures out { IsTrue O.tells → PutsText result (O.held out.old) (O.held out.new) text.now }
-    ensures trace { IsTrue T.tells → PutsText result (T.held trace.old) (T.held trace.new) trace_text.now }
-    ensures ordered { IsTrue O.tells → IsTrue T.tells
-        → (O.held out.new ≡ O.held out.old ++ text.now) ⊎ (T.held trace.new ≡ T.held trace.old) }
-    ensures fault { result ≡ Err Stop.Fault
-        → Rose (O.faults out.old) (O.faults out.new) ⊎ Rose (T.faults trace.old) (T.faults trace.new) }
-    ensures no_memory { result ≢ Err Stop.OutOfMemory }
-    ensures out_later { O.faults out.old ≤ O.faults out.new }
-    ensures trace_later { T.faults trace.old ≤ T.faults trace.new }
-    ensures same_out { O.setting out.new ≡ O.setting out.old }
-    ensures same_trace { T.setting trace.new ≡ T.setting trace.old }
-{
-    put(out, text)?;
-    put(trace, trace_text)
 }
 
 /// Writes a text.

@@ -2,6 +2,7 @@ ghost use Rattle.std.specs.Prelude.{◌≡◌, List, ◌++◌, map, IfOk, OnOk};
 ghost use Rattle.xdp_tool.specs.Queues.{queues_on, queues_of};
 ghost use Rattle.xdp_tool.specs.QueueView.{queue_of};
 
+use lists::List;
 use std::alloc::Global;
 use xdp_state::{Interface, InterfaceList};
 use xio::OutOfMemory;
@@ -19,10 +20,10 @@ pub struct Queue<'a> {
 pub fn queues_of<'a>(
     alloc: Global,
     interfaces: &'a InterfaceList,
-) -> Result<Vec<Queue<'a>>, OutOfMemory>
-    ensures { IfOk result (λ queues. map queue_of queues.items ≡ queues_of interfaces.now) }
+) -> Result<List<Queue<'a>>, OutOfMemory>
+    ensures { IfOk result (λ queues. map queue_of queues ≡ queues_of interfaces.now) }
 {
-    let mut queues = Vec::new(alloc);
+    let mut queues = List::new(alloc);
     for number in 0..interfaces.len() {
         add_queues(&mut queues, number, interfaces.at(number))?;
     }
@@ -31,11 +32,11 @@ pub fn queues_of<'a>(
 
 /// Adds the queues of the interface of this number.
 fn add_queues<'a>(
-    queues: &mut Vec<Queue<'a>>,
+    queues: &mut List<Queue<'a>>,
     number: u32,
     interface: &'a Interface,
 ) -> Result<(), OutOfMemory>
-    ensures { OnOk result (map queue_of queues.new.items ≡ map queue_of queues.old.items ++ queues_on number interface.now) }
+    ensures { OnOk result (map queue_of queues.new ≡ map queue_of queues.old ++ queues_on number interface.now) }
 {
     for queue in 0..interface.queues {
         queues.push(Queue {

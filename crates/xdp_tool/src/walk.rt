@@ -208,19 +208,20 @@ impl<'a> Walk<'a> {
         Ok(Turn::HandIn { processor })
     }
 
-    /// Opens the next phase.
-    pub fn open_next(&mut self, alloc: Global) -> Result<(), OutOfMemory>
+    /// Opens the next phase, and answers the items and the changes of the one that has ended.
+    pub fn open_next(&mut self, alloc: Global) -> Result<(Vec<Item>, Vec<Change>), OutOfMemory>
         ensures opened { (begun : Begun) (phase : Phase) → IsAt self.old begun phase
             → OnOk result (IsAt self.new (begun_after begun phase) (next_of self.old.script.now.interfaces phase)) }
+        ensures given { IfOk result (λ given. (given.0 ≡ self.old.items) × (given.1 ≡ self.old.changes)) }
         ensures same_packets { self.new.packets ≡ self.old.packets }
         ensures same_refused { self.new.refused ≡ self.old.refused }
         ensures same_next { self.new.next ≡ self.old.next }
         ensures same { self.new.script.now ≡ self.old.script.now }
     {
         self.hand_ins = no_hand_ins(alloc, self.hand_ins.len())?;
-        self.items.clear();
-        self.changes.clear();
-        Ok(())
+        let items = std::mem::replace(&mut self.items, Vec::new(alloc));
+        let changes = std::mem::replace(&mut self.changes, Vec::new(alloc));
+        Ok((items, changes))
     }
 }
 
