@@ -12,3 +12,4 @@ pub mod Turns
 pub mod Walking
 pub mod Walks
 pub mod Working
+pub mod Writing

@@ -1,14 +1,14 @@
 -- A state that goes on over a phase's changes, from item to item.
 use Rattle.std.proofs.Common.{◌≡◌, ℕ, ◌+◌, ◌-◌, ◌≤◌, zero, suc, List, [], ◌∷◌, ◌++◌, length, take, drop, fold, get_or, min, max, ◌<◌, append-nil, append_assoc, length-append, refl, sym, ap, ◌∙◌, arith}
 use Rattle.std.proofs.Math.Seq.{take-append-add}
-use Rattle.std.proofs.lemmas.List.{drop_more}
+use Rattle.std.proofs.lemmas.List.{drop_all, drop_more}
 use Rattle.std.proofs.lemmas.List.Sums.{fold-append}
 use Rattle.script_text.specs.Texts.{outcome_text}
 use Rattle.xdp_state.proofs.Counts.{count_after}
 use Rattle.xdp_state.specs.Sums.{Past}
 use Rattle.xdp_state.specs.declared.interface.Interface.{Interface}
 use Rattle.xdp_tool.proofs.Due.{taken-front}
-use Rattle.xdp_tool.specs.Texts.{item_text, items_text, table_text}
+use Rattle.xdp_tool.specs.Texts.{items_text, table_text}
 use Rattle.xdp_state.specs.Book.{AllTaken, Book, after, applied, empty}
 use Rattle.xdp_state.specs.declared.change.Change.{Change}
 use Rattle.xdp_tool.specs.Walked.{AreRising}
@@ -70,10 +70,14 @@ items-step before changes items i d start sat due done place old new taken begin
       shown = now ∙ ap after (sym (until-item before changes item.count place at));
     }
 
-pub items-more : (interfaces : List Interface) (past : Past) (published : List Change) (items : List Item) (i : ℕ) (d : Item) (state : Book) (text more all : List ℕ) → i < length items → state ≡ after (take (get_or items i d).count published) → more ≡ text ++ (outcome_text (get_or items i d).line (get_or items i d).outcome ++ table_text interfaces past state (get_or items i d).outcome) → text ++ items_text interfaces past published (drop i items) ≡ all → more ++ items_text interfaces past published (drop (i + 1) items) ≡ all
-items-more interfaces past published items i d state text more all below shown pushed whole =
+-- the item at a place, with the table of the state at its count, in front of those behind it
+pub items-front : (interfaces : List Interface) (past : Past) (published : List Change) (items : List Item) (i : ℕ) (d : Item) (state : Book) → i < length items → state ≡ after (take (get_or items i d).count published) → items_text interfaces past published (drop i items) ≡ (outcome_text (get_or items i d).line (get_or items i d).outcome ++ table_text interfaces past state (get_or items i d).outcome) ++ items_text interfaces past published (drop (i + 1) items)
+items-front interfaces past published items i d state below shown =
     let item = get_or items i d in
     let left : drop i items ≡ item ∷ drop (i + 1) items = drop_more items i d below in
-    let this : more ≡ text ++ item_text interfaces past published item = pushed ∙ ap (λ b. text ++ (outcome_text item.line item.outcome ++ table_text interfaces past b item.outcome)) shown in
-    rw (this, append_assoc text (item_text interfaces past published item) (items_text interfaces past published (drop (i + 1) items)))
-    (ap (λ t. text ++ t) (sym (ap (items_text interfaces past published) left)) ∙ whole)
+    ap (items_text interfaces past published) left
+    ∙ ap (λ b. (outcome_text item.line item.outcome ++ table_text interfaces past b item.outcome) ++ items_text interfaces past published (drop (i + 1) items)) (sym shown)
+
+-- behind the last item
+pub items-none : (interfaces : List Interface) (past : Past) (published : List Change) (items : List Item) (i : ℕ) → length items ≤ i → items_text interfaces past published (drop i items) ≡ []
+items-none interfaces past published items i all = ap (items_text interfaces past published) (drop_all i items all)

@@ -4,7 +4,7 @@ use Rattle.xdp_tool.proofs.carrier.finish_all.Goals as goal
 
 pub loop-place-init : goal.loop-place-init
 loop-place-init c = record {
-  carried = rw c.in_ok-carried.ensures.items refl;
+  carried = rw c.new-carried.ensures refl;
   idle = λ standings stands. idle-start c.args.processors.now.items standings stands;
   processors = refl;
 }
@@ -16,7 +16,7 @@ loop-place-preserved c =
     let k = c.loop-place.place in
     let below : k < length ps = omega (arith, c.loop-place-test.true, c.len-place-end.ensures, inv.processors, c.loop-place.processors.ok, c.args.processors.now.ok) in
     record {
-      carried = finish-step ps k c.index_mut.result.now c.finish.new.self _ _ _ c.finish.result below c.index_mut.ensures.value c.finish.ensures.carried c.in_ok-push.ensures.items inv.carried;
+      carried = finish-step ps k c.index_mut.result.now c.finish.new.self _ _ _ c.finish.result below c.index_mut.ensures.value c.finish.ensures.carried c.in_ok-push.ensures.ok inv.carried;
       idle = λ standings stands. rw add-one (idle-step k ps standings c.index_mut.result.now c.finish.new.self below c.index_mut.ensures.value c.finish.ensures.idle c.finish.ensures.interface (inv.idle standings stands));
       processors = inv.processors;
     }

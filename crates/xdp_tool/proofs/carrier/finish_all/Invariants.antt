@@ -6,7 +6,7 @@ use Rattle.xdp_tool.proofs.carrier.finish_all.Given as goal
 
 abbrev pub invariant-loop-place : goal.invariant-loop-place
 invariant-loop-place l = record {
-  carried : l.carried.items ++ map (λ (p : Processor). p.carried) (drop l.place l.processors.items) ≡ map (λ (p : Processor). p.carried) l.initial.processors.items;
+  carried : l.carried ++ map (λ (p : Processor). p.carried) (drop l.place l.processors.items) ≡ map (λ (p : Processor). p.carried) l.initial.processors.items;
   idle : (standings : List Standing) → AreStanding l.initial.processors.items standings → AreIdleTo l.place l.processors.items standings;
   processors : vec_len l.processors ≡ vec_len l.initial.processors;
 }

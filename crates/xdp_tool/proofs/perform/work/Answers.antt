@@ -65,7 +65,7 @@ returns-in_err-end_phase-clause-legal g c =
     let ends = c.in-Ok-walk_phase.ensures.ends inv.begun inv.past inv.standings inv.phase inv.stands in
     let phase = closed c.in-Ok-walk_phase.barrier ends.phase in
     let whole = inv.plan_is ∙ ap (λ ps. inv.done ++ ps) (rw (c.walk_phase.ensures.same, inv.same) at ends.phases) in
-    rw whole (ended-legal interfaces inv.done inv.begun inv.past inv.standings c.phases.choices c.end_phase.new.choices phase _ (Err c.in_err-end_phase.field-0.0) inv.ran (steps-of _ inv.begun ends.phase c.in-Ok-walk_phase.barrier ends.stands.at) (c.in_err-end_phase.ensures.choices inv.begun inv.past inv.standings ends.phase ends.stands))
+    rw whole (ended-legal interfaces inv.done inv.begun inv.past inv.standings c.phases.choices c.end_phase.new.choices phase _ (Err c.in_err-end_phase.field-0.0) inv.ran (steps-of _ inv.begun ends.phase c.in-Ok-walk_phase.barrier ends.stands.walks.at) (c.in_err-end_phase.ensures.choices inv.begun inv.past inv.standings ends.phase ends.stands))
 
 pub returns-in_err-end_phase-clause-out : goal.returns-in_err-end_phase-clause-out
 returns-in_err-end_phase-clause-out g c = λ tells.
@@ -101,7 +101,7 @@ returns-then-is_none-clause-legal g c =
     let ends = c.in-Ok-walk_phase.ensures.ends inv.begun inv.past inv.standings inv.phase inv.stands in
     let phase = closed c.in-Ok-walk_phase.barrier ends.phase in
     let whole = inv.plan_is ∙ ap (λ ps. inv.done ++ ps) (rw (c.walk_phase.ensures.same, inv.same) at ends.phases) in
-    rw whole (ended-legal interfaces inv.done inv.begun inv.past inv.standings c.phases.choices c.end_phase.new.choices phase _ (Ok tt) inv.ran (steps-of _ inv.begun ends.phase c.in-Ok-walk_phase.barrier ends.stands.at) (c.in_ok-end_phase.ensures.choices inv.begun inv.past inv.standings ends.phase ends.stands))
+    rw whole (ended-legal interfaces inv.done inv.begun inv.past inv.standings c.phases.choices c.end_phase.new.choices phase _ (Ok tt) inv.ran (steps-of _ inv.begun ends.phase c.in-Ok-walk_phase.barrier ends.stands.walks.at) (c.in_ok-end_phase.ensures.choices inv.begun inv.past inv.standings ends.phase ends.stands))
 
 pub returns-then-is_none-clause-covered : goal.returns-then-is_none-clause-covered
 returns-then-is_none-clause-covered g c =
@@ -111,7 +111,7 @@ returns-then-is_none-clause-covered g c =
     let phase = closed c.in-Ok-walk_phase.barrier ends.phase in
     let whole = inv.plan_is ∙ ap (λ ps. inv.done ++ ps) (rw (c.walk_phase.ensures.same, inv.same) at ends.phases) in
     let last = plan-last interfaces (plan c.args.script.now) inv.done ends.phase c.in-Ok-walk_phase.barrier _ (ap not c.is_none.ensures ∙ ap (λ r. not (not r)) c.if-is_none.true) whole in
-    let more = ran-more interfaces inv.done inv.begun inv.past inv.standings c.phases.choices phase inv.ran (steps-of _ inv.begun ends.phase c.in-Ok-walk_phase.barrier ends.stands.at) in
+    let more = ran-more interfaces inv.done inv.begun inv.past inv.standings c.phases.choices phase inv.ran (steps-of _ inv.begun ends.phase c.in-Ok-walk_phase.barrier ends.stands.walks.at) in
     ap length (c.in_ok-end_phase.ensures.choices inv.begun inv.past inv.standings ends.phase ends.stands) ∙ (more.covered ∙ ap length (sym last))
 
 pub returns-then-is_none-clause-refused : goal.returns-then-is_none-clause-refused
@@ -122,8 +122,8 @@ returns-then-is_none-clause-refused g c =
     let phase = closed c.in-Ok-walk_phase.barrier ends.phase in
     let whole = inv.plan_is ∙ ap (λ ps. inv.done ++ ps) (rw (c.walk_phase.ensures.same, inv.same) at ends.phases) in
     let last = plan-last interfaces (plan c.args.script.now) inv.done ends.phase c.in-Ok-walk_phase.barrier _ (ap not c.is_none.ensures ∙ ap (λ r. not (not r)) c.if-is_none.true) whole in
-    let more = ran-more interfaces inv.done inv.begun inv.past inv.standings c.phases.choices phase inv.ran (steps-of _ inv.begun ends.phase c.in-Ok-walk_phase.barrier ends.stands.at) in
-    c.end_phase.ensures.same_refused ∙ (ends.stands.at.refused ∙ (more.refused ∙ ap has_refusal (sym last)))
+    let more = ran-more interfaces inv.done inv.begun inv.past inv.standings c.phases.choices phase inv.ran (steps-of _ inv.begun ends.phase c.in-Ok-walk_phase.barrier ends.stands.walks.at) in
+    c.end_phase.ensures.same_refused ∙ (ends.stands.walks.at.refused ∙ (more.refused ∙ ap has_refusal (sym last)))
 
 pub returns-then-is_none-clause-out : goal.returns-then-is_none-clause-out
 returns-then-is_none-clause-out g c = λ tells.
@@ -168,7 +168,7 @@ phases-preserved g c =
       past = past_with inv.past (at_hand_in inv.standings ends.phase);
       standings = standings_in ends.phase.work.published inv.standings ends.phase.work.hand_ins (needs_in ends.phase);
       phase = next_of interfaces ends.phase;
-      ran = rw counts (ran-more interfaces inv.done inv.begun inv.past inv.standings c.phases.choices phase inv.ran (steps-of _ inv.begun ends.phase c.in-Ok-walk_phase.barrier ends.stands.at));
+      ran = rw counts (ran-more interfaces inv.done inv.begun inv.past inv.standings c.phases.choices phase inv.ran (steps-of _ inv.begun ends.phase c.in-Ok-walk_phase.barrier ends.stands.walks.at));
       stands = (rw (c.walk_phase.ensures.same, inv.same) at (c.in_ok-end_phase.ensures.stands inv.begun inv.past inv.standings ends.phase ends.stands));
       plan_is = rw c.end_phase.ensures.same_next (plan-more interfaces (plan c.args.script.now) inv.done ends.phase c.in-Ok-walk_phase.barrier _ (ap not c.is_none.ensures ∙ ap (λ r. not (not r)) c.if-is_none.false) whole);
       same = script;
@@ -184,3 +184,9 @@ phases-preserved g c =
       same_out = c.end_phase.ensures.same_out ∙ inv.same_out;
       same_trace = c.end_phase.ensures.same_trace ∙ inv.same_trace;
     }
+
+pub end_phase-requires : goal.end_phase-requires
+end_phase-requires g c =
+    let inv = c.phases.invariant in
+    let ends = c.in-Ok-walk_phase.ensures.ends inv.begun inv.past inv.standings inv.phase inv.stands in
+    record { begun = inv.begun; past = inv.past; standings = inv.standings; phase = ends.phase; stands = ends.stands }

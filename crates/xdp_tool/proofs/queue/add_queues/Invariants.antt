@@ -5,4 +5,4 @@ use Rattle.xdp_tool.proofs.queue.add_queues.Given as goal
 
 abbrev pub invariant-loop-queue : goal.invariant-loop-queue
 invariant-loop-queue l =
-    map queue_of l.queues.items ≡ map queue_of l.initial.queues.items ++ queues_below l.queue l.number l.interface.name
+    map queue_of l.queues ≡ map queue_of l.initial.queues ++ queues_below l.queue l.number l.interface.name

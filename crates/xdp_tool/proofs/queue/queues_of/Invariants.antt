@@ -4,4 +4,4 @@ use Rattle.xdp_tool.specs.Queues.{queues_from}
 use Rattle.xdp_tool.proofs.queue.queues_of.Given as goal
 
 abbrev pub invariant-loop-number : goal.invariant-loop-number
-invariant-loop-number l = map queue_of l.queues.items ≡ queues_from 0 (take l.number l.interfaces)
+invariant-loop-number l = map queue_of l.queues ≡ queues_from 0 (take l.number l.interfaces)

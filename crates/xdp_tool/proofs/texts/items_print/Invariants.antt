@@ -4,10 +4,11 @@ use Rattle.xdp_state.specs.Sums.{Past, tally_of}
 use Rattle.xdp_state.specs.declared.change.Change.{Change}
 use Rattle.xdp_tool.specs.Texts.{items_text}
 use Rattle.xdp_tool.specs.Walked.{AreRising}
-use Rattle.xdp_tool.proofs.texts.items_text.Given as goal
+use Rattle.xio.proofs.PrintLemmas.{HasPrinted}
+use Rattle.xdp_tool.proofs.texts.items_print.Given as goal
 
 abbrev pub invariant-loop-item : goal.invariant-loop-item
-invariant-loop-item l = record {
+invariant-loop-item g l = record {
   within : l.done ≤ length l.changes;
   state : (before : List Change) → l.fn.state ≡ after before → AllTaken (before ++ l.changes)
       → AreRising (length before) l.items (length (before ++ l.changes)) → record {
@@ -16,5 +17,6 @@ invariant-loop-item l = record {
       };
   text : (before : List Change) (past : Past) → l.fn.state ≡ after before → l.sums ≡ tally_of past.all → AllTaken (before ++ l.changes)
       → AreRising (length before) l.items (length (before ++ l.changes))
-      → l.text ++ items_text l.interfaces past (before ++ l.changes) (drop l.item-index l.items) ≡ items_text l.interfaces past (before ++ l.changes) l.items;
+      → HasPrinted g.P.Printer.tells g.P.Printer.counts (g.P.Printer.state l.fn.printer) (g.P.Printer.state l.printer)
+      (items_text l.interfaces past (before ++ l.changes) l.items) (items_text l.interfaces past (before ++ l.changes) (drop l.item-index l.items));
 }
