@@ -7,7 +7,7 @@ use Rattle.xio.specs.Prefixes.{AppendsPrefix}
 use Rattle.xdp_state.specs.declared.interface.Interface.{Interface}
 use Rattle.xdp_state.specs.Sums.{Past, no_past}
 use Rattle.xdp_state.specs.Traversals.{Standing}
-use Rattle.xdp_tool.proofs.Running.{Ran, ended-out, ended-trace, needs_in, out-front, prefix-whole, ran-none, stopped-trace, text_of, trace-split, traces-none}
+use Rattle.xdp_tool.proofs.Running.{Grows, Ran, ended-put, needs_in, out-front, out-grows, prefix-whole, ran-none, stopped-trace, text_of, trace-split, traces-for-front, traces-grow, traces-none}
 use Rattle.xdp_tool.specs.Order.{AppendsWhole}
 use Rattle.xdp_tool.specs.PhaseEnd.{EndsChoices, EndsText}
 use Rattle.xdp_tool.specs.Plan.{Phase}
@@ -19,49 +19,58 @@ use Rattle.xdp_tool.specs.Walked.{Begun, no_begun}
 use Rattle.xdp_tool.specs.declared.perform.Stop.{Stop}
 use Rattle.xdp_tool.specs.declared.perform.Stop.TheVariants.{Fault, OutOfMemory}
 
--- of so many phases out has the texts whole, and the trace no more than the front of theirs
-abbrev pub Ordered : Bool → List Interface → List Phase → List (List (List ℕ)) → List ℕ → List ℕ → List ℕ → List ℕ → Type 0
-Ordered traced interfaces phases choices old_out out old_trace trace =
-    (ended : ℕ) × AppendsWhole old_out out (out_for interfaces phases (take ended choices))
-    × AppendsPrefix old_trace trace (traces_for traced interfaces phases (take ended choices))
+-- Of so many phases the earlier sink has the texts whole, and the later one no more than the front of its own. Sinks are
+-- compared two by two, in the order in which they are written.
+abbrev pub Ordered : (List (List (List ℕ)) → List ℕ) → (List (List (List ℕ)) → List ℕ) → List (List (List ℕ)) → List ℕ → List ℕ → List ℕ → List ℕ → Type 0
+Ordered first second choices old new had now =
+    (ended : ℕ) × AppendsWhole old new (first (take ended choices)) × AppendsPrefix had now (second (take ended choices))
 
--- all phases stand whole in out
-pub whole-ordered : (traced : Bool) (interfaces : List Interface) (phases : List Phase) (choices : List (List (List ℕ))) (old_out out old_trace trace : List ℕ) → out ≡ old_out ++ out_for interfaces phases choices → AppendsPrefix old_trace trace (traces_for traced interfaces phases choices) → Ordered traced interfaces phases choices old_out out old_trace trace
-whole-ordered traced interfaces phases choices old_out out old_trace trace whole front =
+-- all phases stand whole in the earlier one
+pub whole-ordered : (first second : List (List (List ℕ)) → List ℕ) (choices : List (List (List ℕ))) (old new had now : List ℕ) → new ≡ old ++ first choices → AppendsPrefix had now (second choices) → Ordered first second choices old new had now
+whole-ordered first second choices old new had now whole front =
     (length choices, ([], rw (take-length choices, append-nil) whole), rw (take-length choices) front)
 
+-- a phase ended, or its end was cut short
+pub end-ordered : (first second : List (List (List ℕ)) → List ℕ) (choices now : List (List (List ℕ))) (counts : List (List ℕ)) (text more : List ℕ) (result : Result Unit Stop) (old held new had kept last : List ℕ) → Grows first choices counts text → Grows second choices counts more → EndsChoices result choices now counts → held ≡ old ++ first choices → EndsText result held new text → kept ≡ had ++ second choices → EndsText result kept last more → (new ≡ held ++ text) ⊎ (last ≡ kept) → Ordered first second now old new had last
+end-ordered first second choices now counts text more (Ok u) old held new had kept last grows grow is was put were puts order =
+    whole-ordered first second now old new had last
+    (ended-put first choices now counts text (Ok u) old held new grows is was put)
+    (prefix-whole had last (second now) (ended-put second choices now counts more (Ok u) had kept last grow is were puts))
+end-ordered first second choices now counts text more (Err OutOfMemory) old held new had kept last grows grow is was put were puts order =
+    whole-ordered first second now old new had last
+    (put ∙ (was ∙ ap (λ c. old ++ first c) (sym is)))
+    (prefix-whole had last (second now) (puts ∙ (were ∙ ap (λ c. had ++ second c) (sym is))))
+end-ordered first second choices now counts text more (Err Fault) old held new had kept last grows grow is was put were puts (inl whole) =
+    whole-ordered first second now old new had last
+    (ended-put first choices now counts text (Ok tt) old held new grows is was whole)
+    (ended-put second choices now counts more (Err Fault) had kept last grow is were puts)
+end-ordered first second choices now counts text more (Err Fault) old held new had kept last grows grow is was (n, front) were puts (inr same) =
+    let before : take (length choices) now ≡ choices = ap (take (length choices)) is ∙ take-append_seam choices (counts ∷ []) in
+    let whole : new ≡ old ++ (first choices ++ take n text) = front ∙ (ap (λ h. h ++ take n text) was ∙ append_assoc old (first choices) (take n text)) in (
+      length choices,
+      (take n text, whole ∙ ap (λ c. old ++ (first c ++ take n text)) (sym before)),
+      rw before (prefix-whole had last (second choices) (same ∙ were)),
+    )
+
 -- a walk stopped between the ends of phases
-pub stopped-ordered : (traced : Bool) (interfaces : List Interface) (done : List Phase) (begun : Begun) (past : Past) (standings : List Standing) (choices : List (List (List ℕ))) (rest : List Phase) (old_out out old_trace trace : List ℕ) → Ran interfaces done begun past standings choices → out ≡ old_out ++ out_for interfaces done choices → trace ≡ old_trace ++ traces_for traced interfaces done choices → Ordered traced interfaces (done ++ rest) choices old_out out old_trace trace
+pub stopped-ordered : (traced : Bool) (interfaces : List Interface) (done : List Phase) (begun : Begun) (past : Past) (standings : List Standing) (choices : List (List (List ℕ))) (rest : List Phase) (old_out out old_trace trace : List ℕ) → Ran interfaces done begun past standings choices → out ≡ old_out ++ out_for interfaces done choices → trace ≡ old_trace ++ traces_for traced interfaces done choices → Ordered (out_for interfaces (done ++ rest)) (traces_for traced interfaces (done ++ rest)) choices old_out out old_trace trace
 stopped-ordered traced interfaces done begun past standings choices rest old_out out old_trace trace ran whole traces =
-    whole-ordered traced interfaces (done ++ rest) choices old_out out old_trace trace
+    whole-ordered (out_for interfaces (done ++ rest)) (traces_for traced interfaces (done ++ rest)) choices old_out out old_trace trace
     (whole ∙ ap (λ t. old_out ++ t) (sym (out-front interfaces done rest choices ran.covered)))
     (stopped-trace traced interfaces done begun past standings choices rest old_trace trace ran traces)
 
 -- before the first phase
-pub none-ordered : (traced : Bool) (interfaces : List Interface) (phases : List Phase) (choices : List (List (List ℕ))) (out trace : List ℕ) → choices ≡ [] → Ordered traced interfaces phases choices out out trace trace
+pub none-ordered : (traced : Bool) (interfaces : List Interface) (phases : List Phase) (choices : List (List (List ℕ))) (out trace : List ℕ) → choices ≡ [] → Ordered (out_for interfaces phases) (traces_for traced interfaces phases) choices out out trace trace
 none-ordered traced interfaces phases choices out trace none =
     rw none (stopped-ordered traced interfaces [] no_begun (no_past (length (queues_of interfaces))) (standings_of (queues_of interfaces)) [] phases out out trace trace (ran-none interfaces) (sym (append-nil out)) (traces-none traced interfaces trace))
 
--- a phase ended, or its end was cut short
-pub ended-ordered : (traced : Bool) (interfaces : List Interface) (done : List Phase) (begun : Begun) (past : Past) (standings : List Standing) (choices now : List (List (List ℕ))) (phase : Phase) (rest : List Phase) (result : Result Unit Stop) (old_out held out old_trace had trace : List ℕ) → Ran interfaces done begun past standings choices → EndsChoices result choices now (needs_in phase) → held ≡ old_out ++ out_for interfaces done choices → EndsText result held out (text_of interfaces past standings phase) → had ≡ old_trace ++ traces_for traced interfaces done choices → EndsText result had trace (traced_text traced (length choices) phase.barrier (at_hand_in standings phase)) → (out ≡ held ++ text_of interfaces past standings phase) ⊎ (trace ≡ had) → Ordered traced interfaces (done ++ phase ∷ rest) now old_out out old_trace trace
-ended-ordered traced interfaces done begun past standings choices now phase rest (Ok u) old_out held out old_trace had trace ran counts is text was traces order =
-    whole-ordered traced interfaces (done ++ phase ∷ rest) now old_out out old_trace trace
-    (ended-out interfaces done begun past standings choices now phase rest (Ok u) old_out held out ran counts is text)
-    (prefix-whole _ _ _ (ended-trace traced interfaces done begun past standings choices now phase rest (Ok u) old_trace had trace ran counts was traces))
-ended-ordered traced interfaces done begun past standings choices now phase rest (Err OutOfMemory) old_out held out old_trace had trace ran counts is text was traces order =
-    rw counts (stopped-ordered traced interfaces done begun past standings choices (phase ∷ rest) old_out out old_trace trace ran (text ∙ is) (traces ∙ was))
-ended-ordered traced interfaces done begun past standings choices now phase rest (Err Fault) old_out held out old_trace had trace ran counts is text was traces (inl whole) =
-    whole-ordered traced interfaces (done ++ phase ∷ rest) now old_out out old_trace trace
-    (ended-out interfaces done begun past standings choices now phase rest (Ok tt) old_out held out ran counts is whole)
-    (ended-trace traced interfaces done begun past standings choices now phase rest (Err Fault) old_trace had trace ran counts was traces)
-ended-ordered traced interfaces done begun past standings choices now phase rest (Err Fault) old_out held out old_trace had trace ran counts is (n, front) was traces (inr same) =
-    let text = text_of interfaces past standings phase in
-    let before : take (length choices) now ≡ choices = ap (take (length choices)) counts ∙ take-append_seam choices (needs_in phase ∷ []) in
-    let whole : out ≡ old_out ++ (out_for interfaces done choices ++ take n text) = front ∙ ap (λ h. h ++ take n text) is ∙ append_assoc old_out (out_for interfaces done choices) (take n text) in (
-      length choices,
-      (take n text, rw (before, out-front interfaces done (phase ∷ rest) choices ran.covered) whole),
-      rw before (stopped-trace traced interfaces done begun past standings choices (phase ∷ rest) old_trace trace ran (same ∙ was)),
-    )
+pub ended-ordered : (traced : Bool) (interfaces : List Interface) (done : List Phase) (begun : Begun) (past : Past) (standings : List Standing) (choices now : List (List (List ℕ))) (phase : Phase) (rest : List Phase) (result : Result Unit Stop) (old_out held out old_trace had trace : List ℕ) → Ran interfaces done begun past standings choices → EndsChoices result choices now (needs_in phase) → held ≡ old_out ++ out_for interfaces done choices → EndsText result held out (text_of interfaces past standings phase) → had ≡ old_trace ++ traces_for traced interfaces done choices → EndsText result had trace (traced_text traced (length choices) phase.barrier (at_hand_in standings phase)) → (out ≡ held ++ text_of interfaces past standings phase) ⊎ (trace ≡ had) → Ordered (out_for interfaces (done ++ phase ∷ rest)) (traces_for traced interfaces (done ++ phase ∷ rest)) now old_out out old_trace trace
+ended-ordered traced interfaces done begun past standings choices now phase rest result old_out held out old_trace had trace ran counts is text was traces order =
+    end-ordered (out_for interfaces (done ++ phase ∷ rest)) (traces_for traced interfaces (done ++ phase ∷ rest)) choices now (needs_in phase)
+    (text_of interfaces past standings phase) (traced_text traced (length choices) phase.barrier (at_hand_in standings phase)) result old_out held out old_trace had trace
+    (out-grows interfaces done begun past standings choices phase rest ran) (traces-grow traced interfaces done begun past standings choices phase rest ran) counts
+    (is ∙ ap (λ t. old_out ++ t) (sym (out-front interfaces done (phase ∷ rest) choices ran.covered))) text
+    (was ∙ ap (λ t. old_trace ++ t) (sym (traces-for-front traced interfaces done (phase ∷ rest) choices ran.covered))) traces order
 
 -- nothing is printed of no phase
 pub none-whole : (interfaces : List Interface) (phases : List Phase) (out : List ℕ) → AppendsWhole out out (out_for interfaces phases [])
@@ -71,19 +80,14 @@ pub front-begins : (interfaces : List Interface) (phases : List Phase) (old_out 
 front-begins interfaces phases old_out out text (n, front) = (take n text, rw (out-front interfaces [] phases [] refl) front)
 
 -- the same of a trace with its first line
-abbrev pub OrderedRun : Bool → List Interface → List Phase → List (List (List ℕ)) → List ℕ → List ℕ → List ℕ → List ℕ → Type 0
-OrderedRun traced interfaces phases choices old_out out old_trace trace =
-    (ended : ℕ) × AppendsWhole old_out out (out_for interfaces phases (take ended choices))
-    × AppendsPrefix old_trace trace (trace_for traced interfaces phases (take ended choices))
-
-pub begun-ordered : (traced : Bool) (interfaces : List Interface) (phases : List Phase) (choices : List (List (List ℕ))) (old_out out old_trace begun trace : List ℕ) → begun ≡ old_trace ++ (if traced then first_line else []) → Ordered traced interfaces phases choices old_out out begun trace → OrderedRun traced interfaces phases choices old_out out old_trace trace
+pub begun-ordered : (traced : Bool) (interfaces : List Interface) (phases : List Phase) (choices : List (List (List ℕ))) (old_out out old_trace begun trace : List ℕ) → begun ≡ old_trace ++ (if traced then first_line else []) → Ordered (out_for interfaces phases) (traces_for traced interfaces phases) choices old_out out begun trace → Ordered (out_for interfaces phases) (trace_for traced interfaces phases) choices old_out out old_trace trace
 begun-ordered traced interfaces phases choices old_out out old_trace begun trace first (ended, whole, front) =
     (ended, whole, rw (trace-split traced interfaces phases (take ended choices)) (prefix_more _ _ _ _ (rw first at front)))
 
 -- the first line was cut short
-pub unbegun-ordered : (traced : Bool) (interfaces : List Interface) (phases : List Phase) (choices : List (List (List ℕ))) (out old_trace trace : List ℕ) → AppendsPrefix old_trace trace (if traced then first_line else []) → OrderedRun traced interfaces phases choices out out old_trace trace
+pub unbegun-ordered : (traced : Bool) (interfaces : List Interface) (phases : List Phase) (choices : List (List (List ℕ))) (out old_trace trace : List ℕ) → AppendsPrefix old_trace trace (if traced then first_line else []) → Ordered (out_for interfaces phases) (trace_for traced interfaces phases) choices out out old_trace trace
 unbegun-ordered traced interfaces phases choices out old_trace trace front =
     (0, none-whole interfaces phases out, rw (trace-split traced interfaces phases (take 0 choices)) (prefix_of_front _ _ _ _ front))
 
-pub settled-ordered : (traced : Bool) (interfaces : List Interface) (phases : List Phase) (choices : List (List (List ℕ))) (old_out out settled old_trace trace had : List ℕ) → settled ≡ out → had ≡ trace → OrderedRun traced interfaces phases choices old_out out old_trace trace → OrderedRun traced interfaces phases choices old_out settled old_trace had
+pub settled-ordered : (traced : Bool) (interfaces : List Interface) (phases : List Phase) (choices : List (List (List ℕ))) (old_out out settled old_trace trace had : List ℕ) → settled ≡ out → had ≡ trace → Ordered (out_for interfaces phases) (trace_for traced interfaces phases) choices old_out out old_trace trace → Ordered (out_for interfaces phases) (trace_for traced interfaces phases) choices old_out settled old_trace had
 settled-ordered traced interfaces phases choices old_out out settled old_trace trace had same also ordered = rw (same, also) ordered

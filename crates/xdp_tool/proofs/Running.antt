@@ -110,36 +110,45 @@ traces-for-front true interfaces done rest choices same =
     ∙ traces-front 0 done rest (traversed interfaces done choices) (length-carried interfaces done choices same)
 traces-for-front false interfaces done rest choices same = refl
 
--- the text of the phases so far, and of this one where its counts are choices
-abbrev text_with : Result Unit Stop → List ℕ → List ℕ → List ℕ
-text_with (Err OutOfMemory) front text = front
-text_with _ front text = front ++ text
+-- what a text of phases has more with the counts of one phase more
+abbrev pub Grows : (List (List (List ℕ)) → List ℕ) → List (List (List ℕ)) → List (List ℕ) → List ℕ → Type 0
+Grows text_of choices counts text = text_of (choices ++ counts ∷ []) ≡ text_of choices ++ text
 
-put-more : (result : Result Unit Stop) (old held now front text : List ℕ) → held ≡ old ++ front → EndsText result held now text → PutsText result old now (text_with result front text)
-put-more (Ok _) old held now front text is ended = rw (ended, is, append_assoc) refl
-put-more (Err Fault) old held now front text is (n, ended) =
-    (length front + n, ended ∙ ap (λ h. h ++ take n text) is ∙ append_assoc old front (take n text) ∙ ap (λ t. old ++ t) (sym (take-append-add front text n)))
-put-more (Err OutOfMemory) old held now front text is ended = (length front, ended ∙ is ∙ ap (λ t. old ++ t) (sym (take-length front)))
+-- what a sink holds once a phase ended, or once its end was cut short
+pub ended-put : (text_of : List (List (List ℕ)) → List ℕ) (choices now : List (List (List ℕ))) (counts : List (List ℕ)) (text : List ℕ) (result : Result Unit Stop) (old held after : List ℕ) → Grows text_of choices counts text → EndsChoices result choices now counts → held ≡ old ++ text_of choices → EndsText result held after text → PutsText result old after (text_of now)
+ended-put text_of choices now counts text (Ok _) old held after grows is was ended =
+    ended ∙ (ap (λ h. h ++ text) was ∙ (append_assoc old (text_of choices) text ∙ ap (λ t. old ++ t) (sym grows ∙ ap text_of (sym is))))
+ended-put text_of choices now counts text (Err Fault) old held after grows is was (n, ended) =
+    let k = length (text_of choices) + n in (
+      k,
+      ended ∙ (ap (λ h. h ++ take n text) was ∙ (append_assoc old (text_of choices) (take n text)
+          ∙ ap (λ t. old ++ t) (sym (take-append-add (text_of choices) text n) ∙ ap (take k) (sym grows ∙ ap text_of (sym is))))),
+    )
+ended-put text_of choices now counts text (Err OutOfMemory) old held after grows is was ended =
+    let k = length (text_of choices) in
+    (k, ended ∙ (was ∙ ap (λ t. old ++ t) (sym (take-length (text_of choices)) ∙ ap (take k) (ap text_of (sym is)))))
 
-texts-with : (interfaces : List Interface) (done : List Phase) (begun : Begun) (past : Past) (standings : List Standing) (choices now : List (List (List ℕ))) (phase : Phase) (rest : List Phase) (result : Result Unit Stop) → Ran interfaces done begun past standings choices → EndsChoices result choices now (needs_in phase) → out_for interfaces (done ++ phase ∷ rest) now ≡ text_with result (out_for interfaces done choices) (text_of interfaces past standings phase)
-texts-with interfaces done begun past standings choices now phase rest (Ok _) ran is = ap (out_for interfaces (done ++ phase ∷ rest)) is ∙ out-more interfaces done begun past standings choices phase rest ran
-texts-with interfaces done begun past standings choices now phase rest (Err Fault) ran is = ap (out_for interfaces (done ++ phase ∷ rest)) is ∙ out-more interfaces done begun past standings choices phase rest ran
-texts-with interfaces done begun past standings choices now phase rest (Err OutOfMemory) ran is = ap (out_for interfaces (done ++ phase ∷ rest)) is ∙ out-front interfaces done (phase ∷ rest) choices ran.covered
+pub out-grows : (interfaces : List Interface) (done : List Phase) (begun : Begun) (past : Past) (standings : List Standing) (choices : List (List (List ℕ))) (phase : Phase) (rest : List Phase) → Ran interfaces done begun past standings choices → Grows (out_for interfaces (done ++ phase ∷ rest)) choices (needs_in phase) (text_of interfaces past standings phase)
+out-grows interfaces done begun past standings choices phase rest ran =
+    out-more interfaces done begun past standings choices phase rest ran
+    ∙ ap (λ t. t ++ text_of interfaces past standings phase) (sym (out-front interfaces done (phase ∷ rest) choices ran.covered))
 
--- what out holds once a phase ended, or once its end was cut short
+pub traces-grow : (traced : Bool) (interfaces : List Interface) (done : List Phase) (begun : Begun) (past : Past) (standings : List Standing) (choices : List (List (List ℕ))) (phase : Phase) (rest : List Phase) → Ran interfaces done begun past standings choices → Grows (traces_for traced interfaces (done ++ phase ∷ rest)) choices (needs_in phase) (traced_text traced (length choices) phase.barrier (at_hand_in standings phase))
+traces-grow traced interfaces done begun past standings choices phase rest ran =
+    traces-for-more traced interfaces done begun past standings choices phase rest ran
+    ∙ ap (λ t. t ++ traced_text traced (length choices) phase.barrier (at_hand_in standings phase)) (sym (traces-for-front traced interfaces done (phase ∷ rest) choices ran.covered))
+
 pub ended-out : (interfaces : List Interface) (done : List Phase) (begun : Begun) (past : Past) (standings : List Standing) (choices now : List (List (List ℕ))) (phase : Phase) (rest : List Phase) (result : Result Unit Stop) (old held after : List ℕ) → Ran interfaces done begun past standings choices → EndsChoices result choices now (needs_in phase) → held ≡ old ++ out_for interfaces done choices → EndsText result held after (text_of interfaces past standings phase) → PutsText result old after (out_for interfaces (done ++ phase ∷ rest) now)
 ended-out interfaces done begun past standings choices now phase rest result old held after ran counts is ended =
-    rw (texts-with interfaces done begun past standings choices now phase rest result ran counts) (put-more result old held after _ _ is ended)
+    ended-put (out_for interfaces (done ++ phase ∷ rest)) choices now (needs_in phase) (text_of interfaces past standings phase) result old held after
+    (out-grows interfaces done begun past standings choices phase rest ran) counts
+    (is ∙ ap (λ t. old ++ t) (sym (out-front interfaces done (phase ∷ rest) choices ran.covered))) ended
 
-traces-with : (traced : Bool) (interfaces : List Interface) (done : List Phase) (begun : Begun) (past : Past) (standings : List Standing) (choices now : List (List (List ℕ))) (phase : Phase) (rest : List Phase) (result : Result Unit Stop) → Ran interfaces done begun past standings choices → EndsChoices result choices now (needs_in phase) → traces_for traced interfaces (done ++ phase ∷ rest) now ≡ text_with result (traces_for traced interfaces done choices) (traced_text traced (length choices) phase.barrier (at_hand_in standings phase))
-traces-with traced interfaces done begun past standings choices now phase rest (Ok _) ran is = ap (traces_for traced interfaces (done ++ phase ∷ rest)) is ∙ traces-for-more traced interfaces done begun past standings choices phase rest ran
-traces-with traced interfaces done begun past standings choices now phase rest (Err Fault) ran is = ap (traces_for traced interfaces (done ++ phase ∷ rest)) is ∙ traces-for-more traced interfaces done begun past standings choices phase rest ran
-traces-with traced interfaces done begun past standings choices now phase rest (Err OutOfMemory) ran is = ap (traces_for traced interfaces (done ++ phase ∷ rest)) is ∙ traces-for-front traced interfaces done (phase ∷ rest) choices ran.covered
-
--- and the trace
 pub ended-trace : (traced : Bool) (interfaces : List Interface) (done : List Phase) (begun : Begun) (past : Past) (standings : List Standing) (choices now : List (List (List ℕ))) (phase : Phase) (rest : List Phase) (result : Result Unit Stop) (old held after : List ℕ) → Ran interfaces done begun past standings choices → EndsChoices result choices now (needs_in phase) → held ≡ old ++ traces_for traced interfaces done choices → EndsText result held after (traced_text traced (length choices) phase.barrier (at_hand_in standings phase)) → PutsText result old after (traces_for traced interfaces (done ++ phase ∷ rest) now)
 ended-trace traced interfaces done begun past standings choices now phase rest result old held after ran counts is ended =
-    rw (traces-with traced interfaces done begun past standings choices now phase rest result ran counts) (put-more result old held after _ _ is ended)
+    ended-put (traces_for traced interfaces (done ++ phase ∷ rest)) choices now (needs_in phase) (traced_text traced (length choices) phase.barrier (at_hand_in standings phase)) result old held after
+    (traces-grow traced interfaces done begun past standings choices phase rest ran) counts
+    (is ∙ ap (λ t. old ++ t) (sym (traces-for-front traced interfaces done (phase ∷ rest) choices ran.covered))) ended
 
 pub prefix-whole : (old new text : List ℕ) → new ≡ old ++ text → AppendsPrefix old new text
 prefix-whole old new text whole = (length text, whole ∙ ap (λ t. old ++ t) (sym (take-length text)))
@@ -154,7 +163,7 @@ stopped-trace traced interfaces done begun past standings choices rest old held 
     prefix-whole old held _ (is ∙ ap (λ t. old ++ t) (sym (traces-for-front traced interfaces done rest choices ran.covered)))
 
 -- a whole text was put, or its front
-pub puts-whole : {A : Type 0} (result : Result A Stop) (old new text : List ℕ) → new ≡ old ++ text → PutsText result old new text
+pub puts-whole : {A E : Type 0} (result : Result A E) (old new text : List ℕ) → new ≡ old ++ text → PutsText result old new text
 puts-whole (Ok x) old new text whole = whole
 puts-whole (Err e) old new text whole = (length text, whole ∙ ap (λ t. old ++ t) (sym (take-length text)))
 

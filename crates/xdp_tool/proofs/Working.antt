@@ -1,5 +1,5 @@
 -- A run, as its phases are walked.
-use Rattle.std.proofs.Common.{◌≡◌, ◌≢◌, ℕ, true, false, List, [], ◌∷◌, ◌++◌, append_assoc, Result, Ok, Err, OnOk, IfOk, Option, Some, None, refl, ap, sym, ◌∙◌}
+use Rattle.std.proofs.Common.{◌≡◌, ℕ, true, false, List, [], ◌∷◌, ◌++◌, append_assoc, Result, Ok, Err, OnOk, IfOk, Option, Some, None, refl, ap, sym, ◌∙◌}
 use Rattle.std.specs.Prelude.{is_none}
 use Rattle.std.proofs.lemmas.Bool.{false≢true}
 use Rattle.std.specs.Result.{IsErr}
@@ -8,11 +8,10 @@ use Rattle.xdp_state.specs.declared.interface.Interface.{Interface}
 use Rattle.xio.specs.Prefixes.{AppendsPrefix}
 use Rattle.xdp_tool.proofs.Running.{Steps}
 use Rattle.xdp_tool.proofs.Walking.{rising-low}
-use Rattle.xdp_tool.specs.PhaseEnd.{EndsChoices, EndsText, PutsText}
+use Rattle.xdp_tool.specs.PhaseEnd.{PutsText}
 use Rattle.xdp_tool.specs.Plan.{Phase, closed, next_of, phases_from}
 use Rattle.xdp_tool.specs.Walked.{Begun, IsAt, phases_behind}
 use Rattle.xdp_tool.specs.declared.perform.Stop.{Stop}
-use Rattle.xdp_tool.specs.declared.perform.Stop.TheVariants.{Fault, OutOfMemory}
 use Rattle.xdp_tool.specs.declared.walk.Walk.{Walk}
 
 -- what a walk says of its phase, whatever ends it
@@ -39,17 +38,6 @@ not-ok Q (Err e) stopped = tt
 pub not-ok-value : {A E : Type 0} (Q : A → Type 0) (result : Result A E) → IsErr result → IfOk result Q
 not-ok-value Q (Ok x) stopped = absurd (false≢true stopped)
 not-ok-value Q (Err e) stopped = tt
-
--- an end that didn't want memory leaves counts and texts
-pub ends-choices : (result : Result Unit Stop) (old new : List (List (List ℕ))) (counts : List (List ℕ)) → result ≢ Err OutOfMemory → new ≡ old ++ counts ∷ [] → EndsChoices result old new counts
-ends-choices (Ok u) old new counts other is = is
-ends-choices (Err Fault) old new counts other is = is
-ends-choices (Err OutOfMemory) old new counts other is = absurd (other refl)
-
-pub puts-ends : (result : Result Unit Stop) (old new text : List ℕ) → result ≢ Err OutOfMemory → PutsText result old new text → EndsText result old new text
-puts-ends (Ok u) old new text other put = put
-puts-ends (Err Fault) old new text other put = put
-puts-ends (Err OutOfMemory) old new text other put = absurd (other refl)
 
 -- what stands behind the last phase, and behind another one
 pub none-of : (barrier : Option ℕ) → is_none barrier ≡ true → barrier ≡ None
