@@ -1,4 +1,4 @@
-use Rattle.std.proofs.Common.{◌≡◌, ap, ◌∙◌, arith, length, append-nil, sym}
+use Rattle.std.proofs.Common.{◌≡◌, add-zero, ap, ◌∙◌, arith, length, append-nil, sym}
 use Rattle.std.proofs.lemmas.List.{take_rest}
 use Rattle.xio.proofs.PrintLemmas.{printed_all, printed_more, printed_none, printed_stop}
 use Rattle.xdp_tool.proofs.Tables.{goes-whole, items-front, items-none, items-step}
@@ -8,7 +8,7 @@ use Rattle.xdp_tool.proofs.texts.items_print.Goals as goal
 pub loop-item-init : goal.loop-item-init
 loop-item-init g c = record {
   within = omega arith;
-  state = λ before state taken rising. record { now = state ∙ ap after (sym (append-nil before)); rising = rising };
+  state = λ before state taken rising. record { now = state ∙ ap after (sym (append-nil before)); rising = rw add-zero rising };
   text = λ before past state sums taken rising. printed_none _ _ _ _;
 }
 
