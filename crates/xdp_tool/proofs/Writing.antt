@@ -1,5 +1,5 @@
 -- What was printed through a buffer into a sink, of which nothing waits before and after.
-use Rattle.std.proofs.Common.{◌≡◌, ℕ, ◌+◌, ◌-◌, ◌≤◌, Bool, IsTrue, List, [], ◌++◌, length, take, append-nil, Result, Ok, Err, refl, sym, ap, ◌∙◌, subst, arith}
+use Rattle.std.proofs.Common.{◌≡◌, ℕ, ◌+◌, ◌-◌, ◌≤◌, Bool, true, IsTrue, List, [], ◌++◌, length, take, append-nil, Result, Ok, Err, refl, sym, ap, ◌∙◌, subst, arith}
 use Rattle.std.proofs.Math.Seq.{take-append-add}
 use Rattle.std.proofs.lemmas.List.{length-take}
 use Rattle.xio.specs.Causes.{HasCause}
@@ -19,10 +19,10 @@ behind-none : (held waiting text : List ℕ) → waiting ≡ [] → (held ++ wai
 behind-none held waiting text none = ap (λ w. (held ++ w) ++ text) none ∙ ap (λ h. h ++ text) (append-nil held)
 
 -- printing ended
-pub cut-short : {S E F : Type 0} (told : Bool) (held waiting held' waiting' text : List ℕ) (before now : ℕ) (setting setting' : S) (e : E) (f : F) → waiting ≡ []
+pub cut-short : {S E : Type 0} (told : Bool) (held waiting held' waiting' text : List ℕ) (before now : ℕ) (setting setting' : S) (e : E) → waiting ≡ []
     → Prints told true (behind held waiting before setting) (behind held' waiting' now setting') text (let r : Result Unit E = Err e in r)
-    → IsTrue told → PutsText (let r : Result Unit F = Err f in r) held held' text
-cut-short told held waiting held' waiting' text before now setting setting' e f none p h =
+    → IsTrue told → AppendsPrefix held held' text
+cut-short told held waiting held' waiting' text before now setting setting' e none p h =
     let front = p.front h in
     front-put held held' text front.0 (front.1 ∙ ap (take front.0) (behind-none held waiting text none)) (p.more h)
 

@@ -6,7 +6,7 @@ use Rattle.xdp_tool.proofs.perform.end_phase.Goals as goal
 
 pub write_phase-requires-clause-ready : goal.write_phase-requires-clause-ready
 write_phase-requires-clause-ready g c =
-    let s = c.requires in
+    let s = c.requires.standing in
     record {
       begun = s.begun.published;
       phase = closed c.args.barrier s.phase;

@@ -189,4 +189,4 @@ pub end_phase-requires : goal.end_phase-requires
 end_phase-requires g c =
     let inv = c.phases.invariant in
     let ends = c.in-Ok-walk_phase.ensures.ends inv.begun inv.past inv.standings inv.phase inv.stands in
-    record { begun = inv.begun; past = inv.past; standings = inv.standings; phase = ends.phase; stands = ends.stands }
+    record { standing = record { begun = inv.begun; past = inv.past; standings = inv.standings; phase = ends.phase; stands = ends.stands } }

@@ -9,8 +9,8 @@ returns-clause-opened c = λ begun phase at.
     let processors : c.len.result ≡ length (queues_of c.args.self.now.script.now.interfaces) =
     c.len.ensures ∙ (omega (arith, c.args.self.now.hand_ins.ok) ∙ (ap length at.hand_ins ∙ at.processors)) in
     record {
-      items = c.new.ensures.items;
-      published = sym (ap (λ xs. phase.work.published ++ xs) c.new-2.ensures.items ∙ append-nil phase.work.published);
+      items = ap (λ v. v.items) c.replace-items.ensures.after ∙ c.new.ensures.items;
+      published = sym (ap (λ xs. phase.work.published ++ xs) (ap (λ v. v.items) c.replace-changes.ensures.after ∙ c.new-2.ensures.items) ∙ append-nil phase.work.published);
       hand_ins = c.in_ok-self.ensures ∙ ap (λ n. replicate n []) processors;
       packets = at.packets;
       refused = at.refused ∙ or-none _;
