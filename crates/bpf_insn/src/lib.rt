@@ -7,8 +7,6 @@ mod insn;
 pub mod laws;
 mod operation;
 mod table;
-#[cfg(test)]
-mod tests;
 
 pub use decoding::{DecodeEnd, decode};
 pub use encoding::encode;

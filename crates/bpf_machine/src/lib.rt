@@ -17,8 +17,6 @@ mod scratch;
 mod size;
 mod stack;
 mod step;
-#[cfg(test)]
-mod tests;
 mod transfers;
 
 pub use ending::{Cause, RunEnd};

@@ -15,5 +15,3 @@ pub use read::read_btf;
 pub use size::Size;
 pub use types::{Part, TypeRow, Types};
 
-#[cfg(test)]
-mod tests;

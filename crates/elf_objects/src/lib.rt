@@ -21,5 +21,3 @@ pub use reloc::Reloc;
 pub use section::Section;
 pub use symbol::Symbol;
 
-#[cfg(test)]
-mod tests;

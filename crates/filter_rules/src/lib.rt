@@ -7,8 +7,6 @@ pub mod laws;
 mod policy;
 mod rule;
 mod rules;
-#[cfg(test)]
-mod tests;
 mod verdict;
 
 pub use policy::Policy;

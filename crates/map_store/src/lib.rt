@@ -6,8 +6,6 @@ mod search;
 mod slots;
 mod spec;
 mod store;
-#[cfg(test)]
-mod tests;
 
 pub use spec::{MapKind, MapSpec, spec_rule};
 pub use store::{DeleteEnd, Store, UpdateEnd};

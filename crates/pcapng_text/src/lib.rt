@@ -17,8 +17,6 @@ mod refusal;
 mod rule;
 mod start;
 mod stop;
-#[cfg(test)]
-mod tests;
 mod writing;
 
 pub use block_end::BlockEnd;

@@ -17,5 +17,3 @@ pub use maps::maps_of;
 pub use named_map::{MapsEnd, NamedMap, add_map};
 pub use settings::RunConfig;
 
-#[cfg(test)]
-mod tests;

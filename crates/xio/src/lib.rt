@@ -16,8 +16,6 @@ mod room;
 mod sink;
 mod sink_printer;
 mod source;
-#[cfg(test)]
-mod tests;
 mod whole_file;
 mod write_fault;
 mod writing;
@@ -33,7 +31,7 @@ pub use print_buffer::PrintBuffer;
 pub use printer::Printer;
 pub use read_end::ReadEnd;
 pub use reading::read_all;
-pub use real::{RealFiles, RealOut};
+pub use real::{RealFiles, RealOut, read_again};
 pub use sink::Sink;
 pub use sink_printer::{SinkPrinter, pass_on};
 pub use source::Source;

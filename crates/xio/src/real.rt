@@ -5,8 +5,7 @@ mod files;
 mod identity;
 mod out;
 mod slot;
-#[cfg(test)]
-mod tests;
 
+pub use again::read_again;
 pub use files::RealFiles;
 pub use out::RealOut;

@@ -1,7 +1,7 @@
 ghost use Rattle.std.specs.Prelude.{[], false};
 
-use super::*;
 use lists::{Bytes, OutOfMemory};
+use pcapng_text::{BlockEnd, Blocks, PacketOptions, Rule, interface, packet, section};
 use std::alloc::Global;
 use std::test::Fail;
 use xio::{Action, Failed, MemorySource, Source};

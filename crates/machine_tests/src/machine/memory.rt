@@ -1,6 +1,6 @@
 use super::{EXIT, LONG, Machine, new_machine, packet, put, run_slots, slot};
-use crate::{Cause, RunEnd};
 use bpf_insn::Size;
+use bpf_machine::{Cause, RunEnd};
 use std::alloc::Global;
 use std::test::Fail;
 use xio::Action;

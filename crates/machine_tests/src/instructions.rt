@@ -1,4 +1,7 @@
-use super::*;
+use bpf_insn::{
+    Arithmetic, Atomic, DecodeEnd, Insn, Operand, Operation, Table, Width, decode, encode,
+    instructions, rows_apart,
+};
 use std::alloc::Global;
 use std::test::Fail;
 

@@ -1,10 +1,9 @@
-use crate::real::again::read_again;
-use crate::tests::file_takes;
-use crate::{Bytes, Failed, Files, RealFiles, RealOut, Sink, read_file, write_all};
+use crate::streams::file_takes;
 use std::alloc::Global;
 use std::io::{Error, ErrorKind, Read, Write};
 use std::test::Fail;
 use std::{env, fs, io};
+use xio::{Bytes, Files, RealFiles, RealOut, Sink, read_again, read_file, write_all};
 
 /// A stream of which every other call is interrupted.
 #[derive(Drop)]

@@ -1,6 +1,6 @@
 //! Verdicts and changes of rows, worked by hand.
 
-use super::*;
+use filter_rules::{FilterEnd, NoSuchRule, Policy, RuleKey, RuleRow, Rules, features, flags};
 use net_headers::{Headers, Net, Ports};
 use std::alloc::Global;
 use std::process::Abort;

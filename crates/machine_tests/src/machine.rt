@@ -1,7 +1,7 @@
 ghost use Rattle.std.specs.Prelude.{◌≡◌, ◌≤◌, [], length};
 
-use crate::{Cause, Code, Env, Frame, RunEnd, Scratch, run};
 use bpf_insn::decode;
+use bpf_machine::{Cause, Code, Env, Frame, RunEnd, Scratch, run};
 use byteorder::{ByteOrder, LittleEndian};
 use lists::{Bytes, OutOfMemory};
 use map_store::{MapKind, MapSpec, Store};

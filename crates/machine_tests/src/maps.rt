@@ -1,9 +1,9 @@
 ghost use Rattle.std.specs.Prelude.{◌≡◌, ◌<◌, [], length, IsTrue};
 ghost use Rattle.map_store.specs.Slots.{map_at};
 
-use super::*;
 use bpf_insn::Size;
 use lists::{Bytes, OutOfMemory};
+use map_store::{DeleteEnd, MapKind, MapSpec, Store, UpdateEnd, spec_rule};
 use std::alloc::Global;
 use std::test::Fail;
 

@@ -1,4 +1,4 @@
-use super::*;
+use btf_types::{BadBtf, BtfEnd, Part, Size, TypeRow, Types, kind, read_btf};
 use lists::{Bytes, OutOfMemory};
 use std::alloc::Global;
 use std::test::*;

@@ -1,6 +1,10 @@
-use super::*;
 use std::alloc::Global;
 use std::test::Fail;
+use xio::{
+    Bytes, FileSink, Files, MemoryFiles, MemorySink, MemorySource, OutOfMemory, PrintBuffer,
+    Printer, ReadEnd, Sink, SinkPrinter, Source, SteadyFiles, SteadySink, pass_on, read_all,
+    read_file, write_all,
+};
 
 /// A read to the end of a source of the bytes `abcdef`: how it ends and what it leaves.
 #[derive(Clone, Copy)]

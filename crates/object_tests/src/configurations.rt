@@ -1,9 +1,9 @@
 //! Types made one by one, and what they say of configurations and maps.
 
-use super::*;
 use btf_types::{kind, read_btf};
 use lists::{Bytes, List};
 use map_store::MapKind;
+use run_config::{BadConfig, MapsEnd, NamedMap, RunConfig, config_of, maps_of};
 use std::alloc::Global;
 use std::test::Fail;
 

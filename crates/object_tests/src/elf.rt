@@ -1,6 +1,6 @@
 //! Objects built byte by byte, whole and damaged.
 
-use crate::{BadElf, Object, ObjectEnd, Reloc, Section, Symbol, read_object};
+use elf_objects::{BadElf, Object, ObjectEnd, Reloc, Section, Symbol, read_object};
 use std::alloc::{AllocError, Global};
 use std::test::Fail;
 

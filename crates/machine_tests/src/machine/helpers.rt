@@ -1,5 +1,5 @@
 use super::{LONG, Machine, answer_of, new_machine, packet, put, run_slots, slot, stop};
-use crate::Cause;
+use bpf_machine::Cause;
 use std::alloc::Global;
 use std::test::Fail;
 

@@ -1,5 +1,5 @@
 use super::{EXIT, SHORT, new_machine, packet, put, run_slots, stop};
-use crate::{Cause, RunEnd};
+use bpf_machine::{Cause, RunEnd};
 use std::test::Fail;
 use xio::Action;
 

@@ -1,0 +1,5 @@
+//! Tests of texts and captures.
+#![tactic(auto)]
+
+#[cfg(test)]
+mod captures;
