@@ -1,5 +1,15 @@
-//! Tests of a packet's way: rules.
+//! Tests of a packet's way: the rules, the state that publications make, and the sums over what was carried.
 #![tactic(auto)]
 
 #[cfg(test)]
+mod answers;
+#[cfg(test)]
+mod changes;
+#[cfg(test)]
 mod rules;
+#[cfg(test)]
+mod sums;
+#[cfg(test)]
+mod tallies;
+#[cfg(test)]
+mod ways;

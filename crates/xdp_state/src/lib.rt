@@ -16,8 +16,6 @@ mod plan;
 mod state;
 mod sums;
 mod tally;
-#[cfg(test)]
-mod tests;
 mod traversal;
 
 pub use answer::judge;

@@ -2,14 +2,13 @@
 ghost use Rattle.std.specs.Prelude.{◌≡◌};
 ghost use Rattle.xdp_state.specs.Answer.{rule_fits};
 
-use crate::{
-    Change, Command, Interface, InterfaceList, Judgement, Kind, Mode, Reason, State, judge,
-};
 use filter_rules::{Policy, ROWS, RuleKey, RuleKind, features};
-use lists::Bytes;
+use lists::{Bytes, OutOfMemory};
 use std::alloc::Global;
 use std::test::Fail;
-use xio::OutOfMemory;
+use xdp_state::{
+    Change, Command, Interface, InterfaceList, Judgement, Kind, Mode, Reason, State, judge,
+};
 
 /// A command in a table, with the letter of its interface.
 #[derive(Clone, Copy)]
