@@ -10,9 +10,9 @@ use std::alloc::Global;
 use std::marker::Model;
 use xio::{Action, OutOfMemory};
 
-mod traverse;
+mod way;
 
-pub use traverse::traverse;
+pub use way::traverse;
 
 /// The longest frame that comes in.
 pub const FRAME: usize = 15_872;

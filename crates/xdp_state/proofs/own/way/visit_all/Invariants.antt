@@ -2,7 +2,7 @@ use Rattle.std.proofs.Common.{◌≡◌, ◌+◌, ◌≤◌, ◌++◌, length, v
 use Rattle.xdp_state.specs.Members.{members_of}
 use Rattle.xdp_state.specs.Traversal.{visits_of, deciding}
 use Rattle.xdp_state.proofs.Visits.{left}
-use Rattle.xdp_state.proofs.own.traverse.visit_all.Given as goal
+use Rattle.xdp_state.proofs.own.way.visit_all.Given as goal
 
 abbrev pub invariant-loop-member : goal.invariant-loop-member
 invariant-loop-member l =
