@@ -1,5 +1,5 @@
 -- Legal counts, as phases end whose packets were carried at their hand-in.
-use Rattle.std.proofs.Common.{◌≡◌, ℕ, ◌≤◌, List, [], ◌∷◌, ◌++◌, length, arith, refl, ap}
+use Rattle.std.proofs.Common.{◌≡◌, ℕ, ◌≤◌, List, [], ◌∷◌, ◌++◌, length, arith, refl}
 use Rattle.std.specs.Prelude.{⊤}
 use Rattle.xdp_state.specs.Legal.{AreLegalAfter, AreLegalCounts, AreLegalFrom, first_last, last_of, lasts_of, other_lasts}
 use Rattle.xdp_state.specs.Work.{all_needs, needs_of, plan_of, plan_phase}

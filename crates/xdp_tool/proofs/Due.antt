@@ -1,5 +1,5 @@
 -- Packets that are carried as soon as a state has their count.
-use Rattle.std.proofs.Common.{◌≡◌, ◌≢◌, ℕ, ◌+◌, ◌<◌, ◌≤◌, zero, suc, List, [], ◌∷◌, ◌++◌, length, take, drop, map, slice_set, slice_index_or, append-nil, append_assoc, length-append, length-drop, refl, sym, ap, ◌∙◌, arith, ◌⊎◌, inl, inr, get_or}
+use Rattle.std.proofs.Common.{◌≡◌, ◌≢◌, ℕ, ◌+◌, ◌<◌, ◌≤◌, zero, suc, List, [], ◌∷◌, ◌++◌, length, take, drop, map, slice_set, append-nil, append_assoc, length-append, length-drop, refl, sym, ap, ◌∙◌, arith, get_or}
 use Rattle.std.proofs.Common.{Bool, true, false, ◌&&◌, Result, Ok, Err, IfOk, OnOk}
 use Rattle.std.proofs.Math.Seq.{take-append-add}
 use Rattle.std.proofs.lemmas.List.{drop_more, drop-set-lt, length-map, length-take, map-append, take-append-drop, take_more}

@@ -3,7 +3,7 @@ use Rattle.std.proofs.Common.{◌≡◌, ℕ, ◌+◌, ◌≤◌, Bool, true, fa
 use Rattle.std.proofs.Math.Seq.{take-length, take-append-add}
 use Rattle.std.specs.Prelude.{if◌then◌else◌}
 use Rattle.xio.specs.Prefixes.{AppendsPrefix}
-use Rattle.xdp_state.specs.Legal.{AreLegalAfter, AreLegalFrom, AreLegal, lasts_of}
+use Rattle.xdp_state.specs.Legal.{AreLegalAfter, AreLegalFrom, AreLegal}
 use Rattle.xdp_state.specs.Sums.{Past, no_past, past_with}
 use Rattle.xdp_state.specs.Traversals.{Standing, standings_in}
 use Rattle.xdp_state.specs.Work.{all_needs}

@@ -1,5 +1,5 @@
 -- What a turn does to the phase under way, by the lines that are left.
-use Rattle.std.proofs.Common.{◌≡◌, ℕ, ◌+◌, ◌≤◌, zero, suc, Bool, true, false, List, [], ◌∷◌, ◌++◌, length, drop, Option, Some, None, refl, sym, ap, ◌∙◌, arith, add-one, ◌⊎◌, inl, inr}
+use Rattle.std.proofs.Common.{◌≡◌, ℕ, ◌+◌, ◌≤◌, zero, suc, Bool, true, false, List, [], ◌∷◌, ◌++◌, drop, Option, Some, None, refl, sym, ap, ◌∙◌, arith, ◌⊎◌, inl, inr}
 use Rattle.script_text.specs.declared.what.Line.{Line}
 use Rattle.script_text.specs.declared.what.What.{What}
 use Rattle.script_text.specs.declared.what.What.TheVariants as what
@@ -10,7 +10,7 @@ use Rattle.xdp_state.specs.declared.change.Change.{Change}
 use Rattle.xdp_state.specs.declared.interface.Interface.{Interface}
 use Rattle.xdp_state.specs.declared.judgement.Judgement.{Judgement}
 use Rattle.xdp_state.specs.declared.judgement.Judgement.TheVariants.{Accepted, Shown, Refused}
-use Rattle.xdp_tool.specs.Plan.{Phase, closed, phases_from, with_answer, with_packet, with_what}
+use Rattle.xdp_tool.specs.Plan.{Phase, closed, phases_from, with_answer, with_what}
 use Rattle.xdp_tool.specs.Turn.{answered, asked, phase_after, turn_of}
 use Rattle.xdp_tool.specs.Walked.{phases_behind}
 use Rattle.xdp_tool.specs.declared.turn.Turn.{Turn}

@@ -1,10 +1,10 @@
 -- The facts that a walk keeps, as packets come and publications are made.
-use Rattle.std.proofs.Common.{◌≡◌, ℕ, ◌+◌, ◌≤◌, zero, suc, Bool, true, false, ◌||◌, List, [], ◌∷◌, ◌++◌, length, length-append, map, replicate, append-nil, append_assoc, refl, ap, sym, ◌∙◌, arith, slice_set, get_or}
-use Rattle.std.proofs.lemmas.List.{map-append, length-replicate}
+use Rattle.std.proofs.Common.{◌≡◌, ℕ, ◌≤◌, zero, suc, Bool, true, false, ◌||◌, List, [], ◌∷◌, ◌++◌, length, replicate, refl, ap, sym, ◌∙◌, arith, slice_set, get_or}
+use Rattle.std.proofs.lemmas.List.{map-append}
 use Rattle.std.proofs.lemmas.List.Folds.{list_any-append}
 use Rattle.std.proofs.lemmas.Option.{slice_get_within}
 use Rattle.std.specs.List.{list_all, list_any, slice_get}
-use Rattle.std.specs.Prelude.{Option, Some, None, ◌&&◌}
+use Rattle.std.specs.Prelude.{Some, ◌&&◌}
 use Rattle.xdp_state.proofs.Counts.{count_after}
 use Rattle.xdp_state.specs.Book.{AllTaken, after}
 use Rattle.xdp_state.specs.Legal.{AreLegalCounts}

@@ -1,5 +1,5 @@
 -- How a carrier stands between two phases, and what it makes of a phase.
-use Rattle.std.specs.Prelude.{◌≡◌, ℕ, ◌+◌, zero, suc, List, [], ◌∷◌, ◌++◌, length, drop, map, ⊤}
+use Rattle.std.specs.Prelude.{◌≡◌, ℕ, ◌+◌, zero, suc, List, [], ◌∷◌, ◌++◌, length, drop, ⊤}
 use Rattle.xdp_state.specs.Book.{after}
 use Rattle.xdp_state.specs.Legal.{AreLegalCounts}
 use Rattle.xdp_state.specs.Traversals.{Standing, carried_from, carried_in, standing_from, standings_in}

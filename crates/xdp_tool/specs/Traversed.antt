@@ -1,12 +1,12 @@
 -- What the processors of a plan carry with these counts, and the texts of it.
-use Rattle.std.specs.Prelude.{ℕ, Bool, List, length, map}
+use Rattle.std.specs.Prelude.{ℕ, Bool, List, map}
 use Rattle.xdp_state.specs.Traversals.{Standing, traversals}
 use Rattle.xdp_state.specs.declared.carried.Carried.{Carried}
 use Rattle.xdp_state.specs.declared.interface.Interface.{Interface}
 use Rattle.xdp_tool.specs.Plan.{Phase, works_of}
 use Rattle.xdp_tool.specs.Queues.{Queue, queues_of}
 use Rattle.xdp_tool.specs.Texts.{out_text}
-use Rattle.xdp_tool.specs.Trace.{trace_if, trace_text, traces_if}
+use Rattle.xdp_tool.specs.Trace.{trace_if, traces_if}
 
 -- before its first packet
 abbrev pub standing_of : Queue → Standing

@@ -1,14 +1,14 @@
 -- How a walk over a script's lines stands for the phase of the lines so far.
-use Rattle.std.specs.Prelude.{◌≡◌, ℕ, ◌≤◌, ◌+◌, ◌||◌, Bool, false, List, [], ◌∷◌, ◌++◌, length, Option, Some, None, Result, Ok, Err, ⊤}
+use Rattle.std.specs.Prelude.{◌≡◌, ℕ, ◌≤◌, ◌||◌, Bool, false, List, [], ◌∷◌, ◌++◌, length, Option, Some, None, Result, Ok, Err, ⊤}
 use Rattle.std.specs.List.{list_any}
 use Rattle.script_text.specs.declared.what.Line.{Line}
-use Rattle.xdp_state.specs.Book.{AllTaken, Book, after}
+use Rattle.xdp_state.specs.Book.{AllTaken}
 use Rattle.xdp_state.specs.Legal.{AreLegalCounts}
 use Rattle.xdp_state.specs.Work.{needs_of}
 use Rattle.xdp_state.specs.declared.change.Change.{Change}
 use Rattle.xdp_state.specs.declared.interface.Interface.{Interface}
 use Rattle.xdp_state.specs.declared.packet.HandIn.{HandIn}
-use Rattle.xdp_tool.specs.Plan.{Phase, closed, is_refused, next_of, phases_from}
+use Rattle.xdp_tool.specs.Plan.{Phase, is_refused, next_of, phases_from}
 use Rattle.xdp_tool.specs.Queues.{queues_of}
 use Rattle.xdp_tool.specs.declared.item.Item.{Item}
 use Rattle.xdp_tool.specs.declared.turn.Turn.{Turn}

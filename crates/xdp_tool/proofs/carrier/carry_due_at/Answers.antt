@@ -1,4 +1,4 @@
-use Rattle.std.proofs.Common.{◌≡◌, ◌<◌, ap, length, add-one, arith}
+use Rattle.std.proofs.Common.{◌<◌, ap, length, add-one, arith}
 use Rattle.xdp_tool.proofs.Due.{all-lengths, all-step, on_ok-all}
 use Rattle.xdp_tool.proofs.carrier.carry_due_at.Goals as goal
 use Rattle.xdp_tool.proofs.carrier.carry_due_at.Goals.{then-place-hand_ins-via-then-place-hand_ins, then-place-hand_ins-via-else-place-hand_ins+then-place-counts}

@@ -1,4 +1,4 @@
-use Rattle.std.proofs.Common.{◌≡◌, ℕ, ◌-◌, List, length, take}
+use Rattle.std.proofs.Common.{◌≡◌, ◌-◌, List, length, take}
 use Rattle.xdp_state.specs.Book.{after}
 use Rattle.xdp_state.specs.Traversals.{Standing}
 use Rattle.xdp_state.specs.declared.change.Change.{Change}

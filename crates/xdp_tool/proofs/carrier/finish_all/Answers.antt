@@ -1,4 +1,4 @@
-use Rattle.std.proofs.Common.{refl, add-one, ◌∙◌, arith, vec_len, length, ◌<◌}
+use Rattle.std.proofs.Common.{refl, add-one, arith, length, ◌<◌}
 use Rattle.xdp_tool.proofs.Due.{finish-step, idle-done, idle-start, idle-step}
 use Rattle.xdp_tool.proofs.carrier.finish_all.Goals as goal
 

@@ -1,4 +1,4 @@
-use Rattle.std.proofs.Common.{◌≡◌, [], ◌∷◌, ◌++◌, length, drop, Ok, Err, ap, sym, ◌∙◌, refl, arith, append-nil, not}
+use Rattle.std.proofs.Common.{[], ◌∷◌, ◌++◌, length, Ok, Err, ap, sym, ◌∙◌, refl, arith, append-nil, not}
 use Rattle.script_text.specs.declared.script.Script.{Script}
 use Rattle.xdp_state.specs.Sums.{no_past, past_with}
 use Rattle.xdp_state.specs.Traversals.{standings_in}

@@ -1,6 +1,6 @@
-use Rattle.std.proofs.Common.{◌≡◌, ◌++◌, map, take, sym, ap, ◌∙◌}
+use Rattle.std.proofs.Common.{◌++◌, sym, ap, ◌∙◌}
 use Rattle.std.proofs.lemmas.Option.{get_or_from_slice_get, slice_get_within}
-use Rattle.xdp_tool.specs.Queues.{queues_from, queues_on}
+use Rattle.xdp_tool.specs.Queues.{queues_on}
 use Rattle.xdp_tool.proofs.QueueLists.{queues_from-more}
 use Rattle.xdp_tool.proofs.queue.queues_of.Goals as goal
 

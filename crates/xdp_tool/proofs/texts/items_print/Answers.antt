@@ -1,4 +1,4 @@
-use Rattle.std.proofs.Common.{◌≡◌, add-zero, ap, ◌∙◌, arith, length, append-nil, sym}
+use Rattle.std.proofs.Common.{add-zero, ap, ◌∙◌, arith, append-nil, sym}
 use Rattle.std.proofs.lemmas.List.{take_rest}
 use Rattle.xio.proofs.PrintLemmas.{printed_all, printed_more, printed_none, printed_stop}
 use Rattle.xdp_tool.proofs.Tables.{goes-whole, items-front, items-none, items-step}

@@ -1,4 +1,4 @@
-use Rattle.std.proofs.Common.{◌≤◌, length, sym, ◌∙◌, arith}
+use Rattle.std.proofs.Common.{sym, arith}
 use Rattle.std.proofs.lemmas.Result.{on_ok_weaker}
 use Rattle.xdp_tool.proofs.Walking.{handed-past, handed-set}
 use Rattle.xdp_tool.proofs.walk.add_hand_in.Goals as goal

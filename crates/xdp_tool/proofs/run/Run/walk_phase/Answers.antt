@@ -1,4 +1,4 @@
-use Rattle.std.proofs.Common.{◌≡◌, ◌≤◌, ◌+◌, ℕ, drop, length, refl, sym, ap, ◌∙◌, arith}
+use Rattle.std.proofs.Common.{◌≡◌, ◌+◌, drop, refl, sym, ap, ◌∙◌, arith}
 use Rattle.xdp_state.specs.Book.{after, applied}
 use Rattle.xdp_tool.specs.Plan.{phases_from}
 use Rattle.xdp_tool.specs.Turn.{phase_after}
