@@ -2,6 +2,7 @@ pub mod ArrangedLemmas
 pub mod EthernetLemmas
 pub mod FrameLemmas
 pub mod HandedLemmas
+pub mod HexadecimalLemmas
 pub mod Ip6Lemmas
 pub mod LineLemmas
 pub mod NumberLemmas

@@ -48,7 +48,11 @@ fn is_printable(b: u8) -> bool
 pub fn are_printable(line: &[u8]) -> bool
     ensures { result ≡ list_all is_printable line.now }
 {
-    line.iter().all(|b| is_printable(*b))
+    let mut printable = true;
+    for b in line {
+        printable &= is_printable(*b);
+    }
+    printable
 }
 
 /// Whether a line with this first word is a comment.
