@@ -10,5 +10,6 @@ pub mod PartLemmas
 pub mod PieceLemmas
 pub mod PlaceLemmas
 pub mod ReadBack
+pub mod ScriptLemmas
 pub mod TableLemmas
 pub mod WordLemmas

@@ -1,14 +1,15 @@
 -- What is printed reads back.
-use Rattle.std.proofs.Common.{◌≡◌, ℕ, zero, suc, ◌+◌, ◌*◌, ◌<◌, ◌≤◌, ◌^◌, ◌&&◌, Bool, true, false, List, [], ◌∷◌, length, Option, Some, None, refl, sym, subst, inl, inr, ap, arith}
+use Rattle.std.proofs.Common.{◌≡◌, ℕ, zero, suc, ◌+◌, ◌*◌, ◌/◌, ◌%◌, ◌<◌, ◌≤◌, ◌^◌, ◌&&◌, Bool, true, false, List, [], ◌∷◌, length, Option, Some, None, Ok, refl, ◌∙◌, sym, subst, inl, inr, ap, arith}
 use Rattle.std.proofs.lemmas.Bool.{false≢true}
-use Rattle.std.specs.Prelude.{◌==◌, if◌then◌else◌}
+use Rattle.std.specs.Prelude.{◌==◌, slice_index, if◌then◌else◌}
+use Rattle.byteorder.specs.Endian.{big_number}
 use Rattle.std.specs.Char.{is_digit}
 use Rattle.std.specs.Fmt.{decimal}
 use Rattle.std.specs.List.{list_all}
 use Rattle.std.specs.Str.Parse.{AllDigits, digits_value}
 use Rattle.std.proofs.lemmas.Bool.Decides.{nat_tests, eqb_tells}
 use Rattle.std.proofs.lemmas.Fmt.{decimal_is_IsNumeral, length-decimal-le}
-use Rattle.hex.specs.Hex.{IsBytes, encode_lower, encode_with}
+use Rattle.hex.specs.Hex.{IsBytes, decode_of, encode_lower, encode_with, lower_digits}
 use Rattle.hex.proofs.HexLemmas.{decode_of-encode_lower}
 use Rattle.script_text.specs.Frames.{has_frame_size, frame_of}
 use Rattle.script_text.specs.Addresses.{group_of, octet_of, octets_of}
@@ -97,11 +98,26 @@ two_bytes : (a b : ℕ) → a < 256 → b < 256 → IsBytes (a ∷ b ∷ [])
 two_bytes a b first second zero = first
 two_bytes a b first second (suc i) = one_byte b second i
 
+octet_from : (a b octet : ℕ) → decode_of (a ∷ b ∷ []) ≡ Ok (octet ∷ []) → octets_of (a ∷ b ∷ []) ≡ Some (octet ∷ [])
+unfolding octet_of
+octet_from a b octet is = rw is refl
+
+group_from : (a b c d : ℕ) (bytes : List ℕ) → decode_of (a ∷ b ∷ c ∷ d ∷ []) ≡ Ok bytes → group_of (a ∷ b ∷ c ∷ d ∷ []) ≡ Some (big_number 2 bytes)
+unfolding group_of
+group_from a b c d bytes is = rw is refl
+
+-- the lower-case digit of a value
+abbrev digit_of : ℕ → ℕ
+digit_of value = slice_index lower_digits value
+
 pub octets_back : (octet : ℕ) → octet < 256 → octets_of (encode_lower (octet ∷ [])) ≡ Some (octet ∷ [])
-unfolding encode_with octet_of
-octets_back octet below = rw (decode_of-encode_lower (octet ∷ []) (one_byte octet below)) refl
+unfolding encode_with
+octets_back octet below =
+    octet_from (digit_of (octet / 16)) (digit_of (octet % 16)) octet (decode_of-encode_lower (octet ∷ []) (one_byte octet below))
 
 pub groups_back : (high low : ℕ) → high < 256 → low < 256 → group_of (encode_lower (high ∷ low ∷ [])) ≡ Some (high * 256 + low)
-unfolding encode_with group_of
+unfolding encode_with
 groups_back high low first second =
-    rw (decode_of-encode_lower (high ∷ low ∷ []) (two_bytes high low first second)) (ap Some (omega arith))
+    let number : big_number 2 (high ∷ low ∷ []) ≡ high * 256 + low = omega arith in
+    group_from (digit_of (high / 16)) (digit_of (high % 16)) (digit_of (low / 16)) (digit_of (low % 16)) (high ∷ low ∷ [])
+    (decode_of-encode_lower (high ∷ low ∷ []) (two_bytes high low first second)) ∙ ap Some number
