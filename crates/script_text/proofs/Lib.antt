@@ -2,7 +2,6 @@ pub mod ArrangedLemmas
 pub mod EthernetLemmas
 pub mod FrameLemmas
 pub mod HandedLemmas
-pub mod HexadecimalLemmas
 pub mod Ip6Lemmas
 pub mod LineLemmas
 pub mod NumberLemmas
@@ -10,6 +9,5 @@ pub mod PartLemmas
 pub mod PieceLemmas
 pub mod PlaceLemmas
 pub mod ReadBack
-pub mod ScriptLemmas
 pub mod TableLemmas
 pub mod WordLemmas

@@ -34,7 +34,7 @@ pub fn octet_of(high: u8, low: u8) -> Option<u8>
     ensures { result ≡ octet_of high low }
 {
     match <[u8; 1]>::from_hex([high, low]) {
-        Ok([octet]) => Some(octet),
+        Ok(bytes) => Some(bytes[0]),
         Err(_) => None,
     }
 }
