@@ -2,7 +2,7 @@
 # Prints what xdptool takes for long scripts, a row for each: how large the script is, and for each program processor
 # milliseconds, the least of five runs, and the most MB in memory. Arguments are paths of programs, so that several builds are
 # compared in one run; with none it is the one of this checkout. It stands outside the gate. Out goes to /dev/null, and a trace
-# into a file that is thrown away. Fewer MB than Python has itself, about ten, can't be seen.
+# into a file that is thrown away. It needs python3 and GNU time.
 set -euo pipefail
 top=$(cd "$(dirname "$0")/.." && pwd)
 [ $# -gt 0 ] || set -- "$top/crates/xdptool/out/xdptool"
@@ -14,7 +14,7 @@ import os, random, sys
 RUNS = 5
 START = ["interface eth0 1", "xdp-filter load eth0", "xdp-filter ether 02:00:00:00:00:01", "xdp-filter port 53"]
 work, programs = sys.argv[1], sys.argv[2:]
-script, trace = os.path.join(work, "script.xdp"), os.path.join(work, "trace")
+script, trace, peak = (os.path.join(work, name) for name in ("script.xdp", "trace", "peak"))
 draw = random.Random(1)
 
 
@@ -33,14 +33,16 @@ def tables(lines, rules):
 
 
 def cost(words):
-    """Processor milliseconds and MB of a run."""
+    """Processor milliseconds and MB of a run, the latter by a small process in between, since Python's own count otherwise."""
+    words = ["/usr/bin/time", "-f", "%M", "-o", peak, *words]
     out = os.open(os.devnull, os.O_WRONLY)
     pid = os.posix_spawn(words[0], words, os.environ, file_actions=[(os.POSIX_SPAWN_DUP2, out, 1)])
     os.close(out)
     _, status, used = os.wait4(pid, 0)
     if status != 0:
         sys.exit(f"{words}: status {os.waitstatus_to_exitcode(status)}")
-    return 1000 * (used.ru_utime + used.ru_stime), used.ru_maxrss / 1024
+    with open(peak) as file:
+        return 1000 * (used.ru_utime + used.ru_stime), int(file.read()) / 1024
 
 
 def row(name, options):
