@@ -74,4 +74,7 @@ pub octets_of-front : (text : List ℕ) (octet : ℕ) → 3 ≤ length text → 
 octets_of-front [] octet some colon read = absurd (omega arith)
 octets_of-front (a ∷ []) octet some colon read = absurd (omega arith)
 octets_of-front (a ∷ b ∷ []) octet some colon read = absurd (omega arith)
-octets_of-front (a ∷ b ∷ c ∷ more) octet some colon read = rw (colon, read) refl
+octets_of-front (a ∷ b ∷ c ∷ more) octet some colon read =
+    let is : c ≡ 58 = colon in
+    let front : octet_of a b ≡ Some octet = read in
+    rw (is, front) refl
