@@ -1,5 +1,5 @@
 -- Reading an address octet by octet.
-use Rattle.std.proofs.Common.{◌≡◌, ◌≢◌, ℕ, ◌<◌, ◌==◌, Bool, true, false, List, [], ◌∷◌, ◌++◌, length, take, set, Option, Some, None, refl, sym, ◌∙◌, ap, append_assoc, length-append, arith}
+use Rattle.std.proofs.Common.{◌≡◌, ◌≢◌, ℕ, ◌<◌, ◌≤◌, ◌==◌, Bool, true, false, List, [], ◌∷◌, ◌++◌, length, take, drop, get_or, set, Option, Some, None, refl, sym, ◌∙◌, ap, append_assoc, length-append, arith}
 use Rattle.std.specs.Prelude.{option_and_then, option_map, if◌then◌else◌, IfSome}
 use Rattle.byteorder.specs.Endian.{big_number}
 use Rattle.std.proofs.lemmas.List.{take_all, take_more_set, length-set}
@@ -67,3 +67,14 @@ octets_of-other (high ∷ low ∷ colon ∷ more) other = behind (colon == 58) (
     behind true None rest some = tt
     behind true (Some o) None some = tt
     behind true (Some o) (Some octets) some = λ one. omega (arith, one, some)
+
+-- an octet in front of a colon
+pub octets_of-front : (text : List ℕ) (octet : ℕ) → 3 ≤ length text → get_or text 2 0 ≡ 58 → octet_of (get_or text 0 0) (get_or text 1 0) ≡ Some octet
+    → octets_of text ≡ option_map (λ more. octet ∷ more) (octets_of (drop 3 text))
+octets_of-front [] octet some colon read = absurd (omega arith)
+octets_of-front (a ∷ []) octet some colon read = absurd (omega arith)
+octets_of-front (a ∷ b ∷ []) octet some colon read = absurd (omega arith)
+octets_of-front (a ∷ b ∷ c ∷ more) octet some colon read =
+    let is : c ≡ 58 = colon in
+    let front : octet_of a b ≡ Some octet = read in
+    rw (is, front) refl

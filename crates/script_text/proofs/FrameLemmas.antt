@@ -1,5 +1,5 @@
 -- The length of a frame's word.
-use Rattle.std.proofs.Common.{◌≡◌, ℕ, ◌<◌, ◌≤◌, ◌⊎◌, true, List, length, Result, Ok, Err, Some, None, refl, arith}
+use Rattle.std.proofs.Common.{◌≡◌, ℕ, ◌<◌, ◌≤◌, ◌⊎◌, true, List, length, Result, Ok, Err, Some, None, refl, sym, arith}
 use Rattle.hex.specs.Hex.{decode_of}
 use Rattle.hex.specs.declared.error.FromHexError.{FromHexError}
 use Rattle.hex.proofs.HexLemmas.{decode_of-ok}
@@ -17,8 +17,12 @@ frame_of-other word other = decoded (decode_of word) refl
     decoded (Err e) is = refl
 
 -- and one of its length has a frame's
-pub decoded_size : (word bytes : List ℕ) → decode_of word ≡ Ok bytes → 28 ≤ length word → length word ≤ 31744 → has_frame_size bytes ≡ true
-decoded_size word bytes is low high = let twice = (decode_of-ok word bytes is).2 in grind (arith, nat_tests, twice, low, high)
+pub decoded_size : (word bytes : List ℕ) → Some bytes ≡ result_ok (decode_of word) → 28 ≤ length word → length word ≤ 31744 → has_frame_size bytes ≡ true
+decoded_size word bytes read low high = decoded (decode_of word) refl read
+  where
+    decoded : (r : Result (List ℕ) FromHexError) → decode_of word ≡ r → Some bytes ≡ result_ok r → has_frame_size bytes ≡ true
+    decoded (Ok b) is some = let twice = (decode_of-ok word b is).2 in grind (arith, nat_tests, twice, some, low, high)
+    decoded (Err e) is some = absurd (cc)
 
-pub frame_of-found : (word bytes : List ℕ) → decode_of word ≡ Ok bytes → 28 ≤ length word → length word ≤ 31744 → frame_of word ≡ Some bytes
-frame_of-found word bytes is low high = rw (is, decoded_size word bytes is low high) refl
+pub frame_of-found : (word bytes : List ℕ) → Some bytes ≡ result_ok (decode_of word) → 28 ≤ length word → length word ≤ 31744 → Some bytes ≡ frame_of word
+frame_of-found word bytes read low high = rw (sym read, decoded_size word bytes read low high) refl

@@ -1,14 +1,15 @@
 -- The addresses of filter rules, each the number of its bytes with the first one highest.
-use Rattle.std.specs.Prelude.{ℕ, ◌+◌, ◌-◌, ◌*◌, ◌^◌, ◌==◌, ◌&&◌, nat_lt, List, [], ◌∷◌, length, take, drop, Option, Some, None, option_and_then, if◌then◌else◌}
+use Rattle.std.specs.Prelude.{ℕ, ◌+◌, ◌-◌, ◌*◌, ◌^◌, ◌==◌, ◌&&◌, nat_lt, nat_le, List, [], ◌∷◌, ◌++◌, length, take, drop, replicate, slice_index, Option, Some, None, option_and_then, if◌then◌else◌}
 use Rattle.std.specs.Option.{option_map}
+use Rattle.std.specs.Result.{result_ok}
 use Rattle.byteorder.specs.Endian.{big_number}
-use Rattle.hex.specs.Hex.{hex_digit_value}
-use Rattle.script_text.specs.Numbers.{number_in, number_within}
+use Rattle.hex.specs.Hex.{decode_of}
+use Rattle.script_text.specs.Numbers.{number_within}
 use Rattle.script_text.specs.Words.{parts_of}
 
 -- the byte of two hexadecimal digits of either case, the high one first
-abbrev pub octet_of : ℕ → ℕ → Option ℕ
-octet_of high low = option_and_then (λ h. option_map (λ l. 16 * h + l) (hex_digit_value low)) (hex_digit_value high)
+unfoldable pub octet_of : ℕ → ℕ → Option ℕ
+octet_of high low = option_map (λ bytes. slice_index bytes 0) (result_ok (decode_of (high ∷ low ∷ [])))
 
 -- the bytes of pairs of digits with colons between
 abbrev pub octets_of : List ℕ → Option (List ℕ)
@@ -43,9 +44,15 @@ pub record Groups : Type 0 where
   pub count : ℕ
   pub number : ℕ
 
--- one to four hexadecimal digits
+-- one to four digits, with zeros in front of them up to the fourth
+abbrev pub four_digits : List ℕ → Option (List ℕ)
+four_digits digits =
+    if nat_le 1 (length digits) && nat_le (length digits) 4 then Some (replicate (4 - length digits) 48 ++ digits) else None
+
+-- the number of one to four hexadecimal digits of either case
 unfoldable pub group_of : List ℕ → Option ℕ
-group_of part = number_in 16 4 part
+group_of digits =
+    option_and_then (λ four. option_map (λ bytes. big_number 2 bytes) (result_ok (decode_of four))) (four_digits digits)
 
 -- the groups so far and those behind them, at most eight
 abbrev pub groups_behind : Groups → List (List ℕ) → Option Groups

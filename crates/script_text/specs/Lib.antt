@@ -4,7 +4,6 @@ pub mod Frames
 pub mod Handed
 pub mod Interfaces
 pub mod Lists
-pub mod NameLists
 pub mod Names
 pub mod Numbers
 pub mod Options

@@ -31,3 +31,9 @@ abbrev pub Reads : {A : Type 0} → Result A LineEnd → Result A ℕ → Type 0
 Reads (Ok x) wanted = wanted ≡ Ok x
 Reads (Err (BadLine rule)) wanted = wanted ≡ Err rule
 Reads (Err OutOfMemory) wanted = ⊤
+
+-- The same of a call that puts what was read in the place of what was there.
+abbrev pub Leads : {A : Type 0} → Result (Unit {0}) LineEnd → A → Result A ℕ → Type 0
+Leads (Ok tt) now wanted = wanted ≡ Ok now
+Leads (Err (BadLine rule)) now wanted = wanted ≡ Err rule
+Leads (Err OutOfMemory) now wanted = ⊤

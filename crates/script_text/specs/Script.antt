@@ -96,6 +96,10 @@ script_of bytes =
     if nat_lt 65536 (length (lines bytes)) then Err TooManyLines
     else read_lines (record { interfaces = []; lines = [] }) 1 (lines bytes)
 
+-- why a script of so many lines isn't taken, the first of whose bad lines has this number
+abbrev pub bad_script : ℕ → ℕ → ℕ → ScriptEnd
+bad_script line rule count = if nat_lt 65536 count then TooManyLines else BadScript line rule
+
 -- A result is the one that is wanted; only want of memory is free.
 abbrev pub Agrees : Result Script ScriptEnd → Result Script ScriptEnd → Type 0
 Agrees (Err OutOfMemory) wanted = ⊤

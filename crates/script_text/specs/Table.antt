@@ -8,8 +8,9 @@ use Rattle.filter_rules.specs.declared.rule.RuleKind.{RuleKind}
 use Rattle.filter_rules.specs.declared.rule.RuleKind.TheVariants.{Port, Ip4, Ip6, Ether}
 use Rattle.filter_rules.specs.declared.rule.RuleRow.{RuleRow}
 use Rattle.hex.specs.Hex.{encode_lower}
-use Rattle.script_text.specs.NameLists.{features_text, flags_text}
+use Rattle.script_text.specs.Lists.{flags_text, list_text}
 use Rattle.script_text.specs.Vocabulary.{action_name, policy_name}
+use Rattle.script_text.specs.declared.vocabulary.BitNames.TheVariants.{Features}
 use Rattle.xdp_state.specs.Book.{Book}
 use Rattle.xdp_state.specs.Hits.{hits_in}
 use Rattle.xdp_state.specs.declared.attachment.Attachment.{Attachment}
@@ -70,7 +71,7 @@ rows_text hits (row ∷ rows) = row_line row (hits_in hits row.number) ++ rows_t
 -- an interface's filter
 unfoldable pub filter_line : List ℕ → Policy → ℕ → List ℕ
 filter_line name policy features =
-    codes "  " ++ (name ++ (codes " " ++ (policy_name policy ++ codes " "))) ++ (features_text features ++ codes "\n")
+    codes "  " ++ (name ++ (codes " " ++ (policy_name policy ++ codes " "))) ++ (list_text Features features ++ codes "\n")
 
 abbrev pub kind_line : List ℕ → Kind → List ℕ
 kind_line name (Filter policy features) = filter_line name policy features

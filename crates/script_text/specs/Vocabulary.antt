@@ -5,6 +5,8 @@ use Rattle.filter_rules.specs.declared.policy.Policy.{Policy}
 use Rattle.filter_rules.specs.declared.policy.Policy.TheVariants.{Allow, Deny}
 use Rattle.xdp_state.specs.declared.attachment.Mode.{Mode}
 use Rattle.xdp_state.specs.declared.attachment.Mode.TheVariants.{Native, Skb}
+use Rattle.script_text.specs.declared.vocabulary.BitNames.{BitNames}
+use Rattle.script_text.specs.declared.vocabulary.BitNames.TheVariants.{Features, AddressFlags, PortFlags}
 use Rattle.xio.specs.declared.action.Action.{Action}
 use Rattle.xio.specs.declared.action.Action.TheVariants.{Aborted, Drop, Pass, Tx, Redirect}
 
@@ -50,6 +52,12 @@ mode_of word =
 abbrev pub address_flag_name : ℕ → List ℕ
 address_flag_name bit = if bit == 1 then codes "src" else codes "dst"
 
+abbrev pub address_flag_of : List ℕ → Option ℕ
+address_flag_of word =
+    if bytes_eq word (address_flag_name 1) then Some 1
+    else if bytes_eq word (address_flag_name 2) then Some 2
+    else None
+
 -- of a port: 1, 2, 4 or 8
 abbrev pub port_flag_name : ℕ → List ℕ
 port_flag_name bit =
@@ -57,6 +65,14 @@ port_flag_name bit =
     else if bit == 2 then codes "src-udp"
     else if bit == 4 then codes "dst-tcp"
     else codes "dst-udp"
+
+abbrev pub port_flag_of : List ℕ → Option ℕ
+port_flag_of word =
+    if bytes_eq word (port_flag_name 1) then Some 1
+    else if bytes_eq word (port_flag_name 2) then Some 2
+    else if bytes_eq word (port_flag_name 4) then Some 4
+    else if bytes_eq word (port_flag_name 8) then Some 8
+    else None
 
 -- by the feature's bit: 1, 2, 4, 8 or 16
 abbrev pub feature_name : ℕ → List ℕ
@@ -75,3 +91,14 @@ feature_of word =
     else if bytes_eq word (feature_name 8) then Some 8
     else if bytes_eq word (feature_name 16) then Some 16
     else None
+
+-- the word of a bit, and the bit of a word
+abbrev pub bit_name : BitNames → ℕ → List ℕ
+bit_name Features bit = feature_name bit
+bit_name AddressFlags bit = address_flag_name bit
+bit_name PortFlags bit = port_flag_name bit
+
+abbrev pub bit_of : BitNames → List ℕ → Option ℕ
+bit_of Features word = feature_of word
+bit_of AddressFlags word = address_flag_of word
+bit_of PortFlags word = port_flag_of word

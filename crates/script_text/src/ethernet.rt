@@ -1,27 +1,8 @@
 ghost use Rattle.std.specs.Prelude.{◌≡◌, ◌≢◌, [], ◌∷◌, length, Some, IfSome, IfNone, option_map};
-ghost use Rattle.hex.specs.Hex.{hex_digit_value};
-ghost use Rattle.script_text.specs.Addresses.{octet_of, octets_of, ether_of};
+ghost use Rattle.script_text.specs.Addresses.{octets_of, ether_of};
 
+use crate::hexadecimal::octet_of;
 use byteorder::{BigEndian, ByteOrder};
-
-fn digit_value(digit: u8) -> Option<u8>
-    ensures { result ≡ hex_digit_value digit }
-{
-    match digit {
-        b'0'..=b'9' => Some(digit - b'0'),
-        b'a'..=b'f' => Some(digit - b'a' + 10),
-        b'A'..=b'F' => Some(digit - b'A' + 10),
-        _ => None,
-    }
-}
-
-fn octet(high: u8, low: u8) -> Option<u8>
-    ensures { result ≡ octet_of high low }
-{
-    let high = digit_value(high)?;
-    let low = digit_value(low)?;
-    Some(16 * high + low)
-}
 
 /// The octet in front of a colon, and what stands behind the colon.
 fn split_octet(text: &[u8]) -> Option<(u8, &[u8])>
@@ -31,7 +12,7 @@ fn split_octet(text: &[u8]) -> Option<(u8, &[u8])>
     let [high, low, b':', behind @ ..] = text else {
         return None;
     };
-    let octet = octet(*high, *low)?;
+    let octet = octet_of(*high, *low)?;
     Some((octet, behind))
 }
 
@@ -43,7 +24,7 @@ fn only_octet(text: &[u8]) -> Option<u8>
     let [high, low] = text else {
         return None;
     };
-    octet(*high, *low)
+    octet_of(*high, *low)
 }
 
 /// The number of an Ethernet address, six pairs of hexadecimal digits with colons between; its first byte is the highest.

@@ -18,11 +18,9 @@ use crate::rule::{BAD_ADDRESS, BAD_FORM, BAD_NAME, BAD_NUMBER, Rule, UNKNOWN};
 use crate::text::bytes_of;
 use crate::word_lists::{Directions, Protocols};
 use crate::words::next_word;
-use filter_rules::{Policy, RuleKey, RuleKind};
+use filter_rules::{Policy, RuleKey, RuleKind, features};
 use std::alloc::Global;
 use xdp_state::{Command, Mode};
-
-const ALL_FEATURES: u8 = 31;
 
 /// What an option gives, or what holds without it.
 fn or_else<T: Copy>(given: Option<Result<T, Rule>>, default: T) -> Result<T, Rule>
@@ -41,7 +39,7 @@ fn load_of(alloc: Global, name: &[u8], given: Given) -> Result<Command, LineEnd>
     ensures flags { IfOk result (λ command. rule_fits command ≡ true) }
 {
     let policy = or_else(given.policy, Policy::Allow);
-    let features = or_else(given.features, ALL_FEATURES);
+    let features = or_else(given.features, features::ALL);
     let mode = or_else(given.mode, Mode::Native);
     let ((), (mode, (policy, features))) = both(
         keeps(BAD_NAME, is_name(name)),

@@ -1,7 +1,7 @@
 ghost use Rattle.std.specs.Prelude.{◌≡◌, ◌==◌, ◌&&◌, ◌+◌, ◌^◌, ◌*◌, ◌-◌, ◌<◌, ◌≤◌, length, IfSome, MatchOption, None, Some};
-ghost use Rattle.script_text.specs.Addresses.{group_of, groups_of, gap_of, sides_of, ip6_of};
+ghost use Rattle.script_text.specs.Addresses.{groups_of, gap_of, sides_of, ip6_of};
 
-use crate::numbers::number_in;
+use crate::hexadecimal::group_of;
 use crate::parts::first_part;
 
 /// Groups of 16 bits: how many, at most eight, and their number.
@@ -9,14 +9,6 @@ use crate::parts::first_part;
 struct Groups {
     count: u32,
     number: u128,
-}
-
-#[tactic(auto, unfolding(crate::specs::Addresses::group_of))]
-fn group_of(part: &[u8]) -> Option<u16>
-    ensures { result ≡ group_of part.now }
-{
-    let group = number_in(16, 4, part)?;
-    Some(group as u16)
 }
 
 /// Groups with colons between, or none.

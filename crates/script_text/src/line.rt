@@ -1,12 +1,12 @@
-ghost use Rattle.std.specs.Prelude.{◌≡◌, ◌+◌, ◌≤◌, true, length, IfOk};
+ghost use Rattle.std.specs.Prelude.{◌≡◌, ◌+◌, ◌≤◌, true, length, IfOk, OnOk, OnErr};
 ghost use Rattle.script_text.specs.Handed.{IsSound, asks_frame, asks_processor, asks_flags};
 ghost use Rattle.script_text.specs.Interfaces.{queue_count, packet_of};
-ghost use Rattle.script_text.specs.Readings.{Reads};
+ghost use Rattle.script_text.specs.Readings.{Leads, Reads};
 ghost use Rattle.script_text.specs.Script.{interface_line, packet_line, what_of, read_line};
 ghost use Rattle.script_text.specs.Words.{words_of};
 
 use crate::filter::filter_line;
-use crate::frame::frame;
+use crate::frame::Frame;
 use crate::interfaces::{hand_in_of, interface_of};
 use crate::reading::LineEnd;
 use crate::rule::{BAD_BYTE, BAD_FORM, BAD_FRAME, UNKNOWN};
@@ -19,11 +19,12 @@ use xdp_state::Interface;
 
 /// Reads `NAME QUEUES`.
 #[tactic(auto, unfolding(crate::specs::Script::interface_line))]
-fn interface_line(alloc: Global, mut script: Script, words: &[u8]) -> Result<Script, LineEnd>
-    requires { IsSound script }
-    ensures script { Reads result (interface_line script (words_of words.now)) }
-    ensures sound { IfOk result (λ read. IsSound read) }
-    ensures lines { IfOk result (λ read. read.lines ≡ script.lines) }
+fn interface_line(alloc: Global, script: &mut Script, words: &[u8]) -> Result<(), LineEnd>
+    requires { IsSound script.old }
+    ensures script { Leads result script.new (interface_line script.old (words_of words.now)) }
+    ensures sound { OnOk result (IsSound script.new) }
+    ensures lines { script.new.lines ≡ script.old.lines }
+    ensures err { OnErr result (script.new ≡ script.old) }
 {
     let Some((name, behind)) = next_word(words) else {
         return Err(LineEnd::BadLine { rule: BAD_FORM });
@@ -38,7 +39,7 @@ fn interface_line(alloc: Global, mut script: Script, words: &[u8]) -> Result<Scr
     let queues = interface_of(script.interfaces.as_slice(), first, name, queues)?;
     let name = bytes_of(alloc, name)?;
     script.interfaces.push(Interface { name, queues })?;
-    Ok(script)
+    Ok(())
 }
 
 /// The packet of a hand-in's words.
@@ -60,7 +61,7 @@ fn packet_of(
         Ok(processor) => processor,
         Err(rule) => return Err(LineEnd::BadLine { rule }),
     };
-    match frame(alloc, digits)? {
+    match Frame::of_digits(alloc, digits)? {
         Some(frame) => Ok(What::Packet { processor, frame }),
         None => Err(LineEnd::BadLine { rule: BAD_FRAME }),
     }
@@ -123,20 +124,21 @@ fn what_of(
 #[tactic(auto, unfolding(crate::specs::Script::read_line), using(crate::proofs::HandedLemmas::handed))]
 pub fn read_line(
     alloc: Global,
-    mut script: Script,
+    script: &mut Script,
     number: u32,
     line: &[u8],
-) -> Result<Script, LineEnd>
-    requires { IsSound script }
-    ensures script { Reads result (read_line script number line.now) }
-    ensures sound { IfOk result (λ read. IsSound read) }
-    ensures lines { IfOk result (λ read. length read.lines ≤ length script.lines + 1) }
+) -> Result<(), LineEnd>
+    requires { IsSound script.old }
+    ensures script { Leads result script.new (read_line script.old number line.now) }
+    ensures sound { OnOk result (IsSound script.new) }
+    ensures lines { length script.new.lines ≤ length script.old.lines + 1 }
+    ensures err { OnErr result (script.new ≡ script.old) }
 {
     let Some((command, words)) = next_word(line) else {
-        return Ok(script);
+        return Ok(());
     };
     if is_comment(command) {
-        return Ok(script);
+        return Ok(());
     }
     if !are_printable(line) {
         return Err(LineEnd::BadLine { rule: BAD_BYTE });
@@ -146,5 +148,5 @@ pub fn read_line(
     }
     let what = what_of(alloc, script.interfaces.as_slice(), command, words)?;
     script.lines.push(Line { line: number, what })?;
-    Ok(script)
+    Ok(())
 }

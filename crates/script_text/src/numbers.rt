@@ -1,45 +1,37 @@
-ghost use Rattle.std.specs.Prelude.{◌≡◌, ℕ, ◌^◌, ◌<◌, ◌≤◌, length, IfSome};
-ghost use Rattle.script_text.specs.Numbers.{numeral, number_in, number_of, number_within};
+//! Decimal numbers, in one place for what reads them and what prints them.
 
-/// The number of digits of the radix.
+ghost use Rattle.std.specs.Prelude.{◌≡◌, ◌≤◌, length, IfSome};
+ghost use Rattle.std.specs.Fmt.{decimal};
+ghost use Rattle.script_text.specs.Numbers.{numeral, number_of, number_within};
+ghost use Rattle.xio.specs.Printing.{Prints};
+
+use xio::Printer;
+
+/// The number of digits.
 #[tactic(auto, unfolding(crate::specs::Numbers::are_digits))]
-fn numeral(radix: u32, digits: &[u8]) -> Option<u128>
-    requires least { 2 ≤ radix }
-    requires most { radix ≤ 16 }
-    requires short { length digits.now ≤ 20 }
-    ensures value { result ≡ numeral radix digits.now }
-    ensures small { IfSome result (λ number. number < 16 ^ length digits.now) }
+fn numeral(digits: &[u8]) -> Option<u128>
+    requires { length digits.now ≤ 20 }
+    ensures { result ≡ numeral digits.now }
 {
     let mut number = 0;
     for digit in digits {
-        let value = char::from(*digit).to_digit(radix)?;
-        number = number * u128::from(radix) + u128::from(value);
+        let value = char::from(*digit).to_digit(10)?;
+        number = number * 10 + u128::from(value);
     }
     Some(number)
 }
 
-/// The number of at least one and at most so many digits.
-pub fn number_in(radix: u32, most: usize, word: &[u8]) -> Option<u128>
-    requires least { 2 ≤ radix }
-    requires most { radix ≤ 16 }
-    requires short { most ≤ 20 }
-    ensures value { result ≡ number_in radix most word.now }
-    ensures small { IfSome result (λ number. number < 16 ^ most) }
-{
-    if word.is_empty() || word.len() > most {
-        return None;
-    }
-    numeral(radix, word)
-}
-
-/// The number of 1 to 20 decimal digits.
+/// The number of 1 to 20 digits.
 pub fn number_of(word: &[u8]) -> Option<u128>
     ensures { result ≡ number_of word.now }
 {
-    number_in(10, 20, word)
+    if word.is_empty() || word.len() > 20 {
+        return None;
+    }
+    numeral(word)
 }
 
-/// The number of 1 to 20 decimal digits, where it is in the range.
+/// The number of 1 to 20 digits, where it is in the range.
 pub fn number_within(low: u32, high: u32, word: &[u8]) -> Option<u32>
     ensures value { result ≡ number_within low high word.now }
     ensures range { IfSome result (λ number. number ≤ high) }
@@ -49,4 +41,12 @@ pub fn number_within(low: u32, high: u32, word: &[u8]) -> Option<u32>
         return None;
     }
     Some(number as u32)
+}
+
+/// Prints a number.
+pub fn print_number<P: Printer>(printer: &mut P, number: u128) -> Result<(), P::End>
+    ensures { Prints P.tells P.counts (P.state printer.old) (P.state printer.new) (decimal number) result }
+{
+    let mut digits = itoa::Buffer::new();
+    printer.print(digits.format(number).as_bytes())
 }

@@ -1,10 +1,12 @@
 ghost use Rattle.std.specs.Prelude.{◌≡◌, ◌<◌, ◌==◌, [], ◌∷◌, length, position, IfSome, MatchOption};
 ghost use Rattle.script_text.specs.Words.{parts_of};
 
+use memchr::memchr;
+
 fn separator_in(word: &[u8], separator: u8) -> Option<usize>
     ensures { result ≡ position (λ b. b == separator) word.now }
 {
-    word.iter().position(|b| *b == separator)
+    memchr(separator, word)
 }
 
 /// A part of a word, and what stands behind the separator that ends it, where one does.

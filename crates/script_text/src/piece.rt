@@ -1,15 +1,10 @@
-ghost use Rattle.std.specs.Prelude.{◌≤◌, ◌++◌, length, codes};
-ghost use Rattle.std.specs.Fmt.{decimal};
-ghost use Rattle.hex.specs.Hex.{encode_lower};
+ghost use Rattle.std.specs.Prelude.{◌++◌, codes};
 ghost use Rattle.script_text.specs.Pieces.{listed, piece_text, line_of};
 ghost use Rattle.xio.specs.Printing.{Prints};
 
+use crate::hexadecimal::print_digits;
+use crate::numbers::print_number;
 use xio::Printer;
-
-/// How many bytes are turned into digits at once.
-const CHUNK: usize = 256;
-
-const CHUNK_DIGITS: usize = 512;
 
 /// A piece of a printed line.
 #[derive(Clone, Copy, Debug)]
@@ -41,37 +36,6 @@ fn print_piece<P: Printer>(printer: &mut P, piece: Piece<'_>) -> Result<(), P::E
         Piece::Number(number) => print_number(printer, number),
         Piece::Digits(bytes) => print_digits(printer, bytes),
         Piece::Listed { bits, bit, name } => print_listed(printer, bits, bit, name),
-    }
-}
-
-fn print_number<P: Printer>(printer: &mut P, number: u128) -> Result<(), P::End>
-    ensures { Prints P.tells P.counts (P.state printer.old) (P.state printer.new) (decimal number) result }
-{
-    let mut digits = itoa::Buffer::new();
-    printer.print(digits.format(number).as_bytes())
-}
-
-fn print_digits<P: Printer>(printer: &mut P, bytes: &[u8]) -> Result<(), P::End>
-    ensures { Prints P.tells P.counts (P.state printer.old) (P.state printer.new) (encode_lower bytes.now) result }
-{
-    let mut rest = bytes;
-    while !rest.is_empty() {
-        let (front, behind) = rest.split_at(rest.len().min(CHUNK));
-        print_chunk(printer, front)?;
-        rest = behind;
-    }
-    Ok(())
-}
-
-fn print_chunk<P: Printer>(printer: &mut P, bytes: &[u8]) -> Result<(), P::End>
-    requires { length bytes.now ≤ 256 }
-    ensures { Prints P.tells P.counts (P.state printer.old) (P.state printer.new) (encode_lower bytes.now) result }
-{
-    let mut buffer = [0; CHUNK_DIGITS];
-    let digits = &mut buffer[..2 * bytes.len()];
-    match hex::encode_to_slice(bytes, digits) {
-        Ok(()) => printer.print(digits),
-        Err(_) => unreachable!(),
     }
 }
 

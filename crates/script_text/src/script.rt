@@ -1,12 +1,14 @@
-ghost use Rattle.std.specs.Prelude.{◌≡◌, ◌≤◌, true, length, IfOk};
+ghost use Rattle.std.specs.Prelude.{◌≡◌, ◌+◌, ◌≤◌, true, length, IfOk};
 ghost use Rattle.std.specs.List.{list_all};
+ghost use Rattle.std.specs.Str.Lines.{lines};
 ghost use Rattle.script_text.specs.Handed.{has_frame, has_processor, has_flags};
 ghost use Rattle.script_text.specs.Interfaces.{queue_count};
-ghost use Rattle.script_text.specs.Script.{script_of, Agrees};
+ghost use Rattle.script_text.specs.Script.{script_of, bad_script, Agrees};
 
 use crate::line::read_line;
 use crate::lines::{has_more_lines, split_line};
 use crate::reading::LineEnd;
+use crate::rule::Rule;
 use crate::what::LineList;
 use std::alloc::Global;
 use xdp_state::InterfaceList;
@@ -40,9 +42,6 @@ pub fn read_script(alloc: Global, bytes: &[u8]) -> Result<Script, ScriptEnd>
     ensures interfaces { IfOk result (λ script. length script.interfaces ≤ 8) }
     ensures queues { IfOk result (λ script. queue_count script.interfaces ≤ 8) }
 {
-    if has_more_lines(bytes, MOST_LINES) {
-        return Err(ScriptEnd::TooManyLines);
-    }
     let mut script = Script {
         interfaces: InterfaceList::new(alloc),
         lines: LineList::new(alloc),
@@ -50,13 +49,28 @@ pub fn read_script(alloc: Global, bytes: &[u8]) -> Result<Script, ScriptEnd>
     let mut line = 0;
     let mut rest = bytes;
     while let Some((text, behind)) = split_line(rest) {
+        if line == MOST_LINES {
+            return Err(ScriptEnd::TooManyLines);
+        }
         line += 1;
         rest = behind;
-        script = match read_line(alloc, script, line, text) {
-            Ok(script) => script,
-            Err(LineEnd::BadLine { rule }) => return Err(ScriptEnd::BadScript { line, rule }),
+        match read_line(alloc, &mut script, line, text) {
+            Ok(()) => {}
+            Err(LineEnd::BadLine { rule }) => return Err(bad_script(line, rule, behind)),
             Err(LineEnd::OutOfMemory) => return Err(ScriptEnd::OutOfMemory),
-        };
+        }
     }
     Ok(script)
+}
+
+/// Why a script isn't taken whose line breaks a rule, by the bytes behind that line.
+fn bad_script(line: u32, rule: Rule, behind: &[u8]) -> ScriptEnd
+    requires { line ≤ 65536 }
+    ensures { result ≡ bad_script line rule (line + length (lines behind.now)) }
+{
+    if has_more_lines(behind, MOST_LINES - line) {
+        ScriptEnd::TooManyLines
+    } else {
+        ScriptEnd::BadScript { line, rule }
+    }
 }

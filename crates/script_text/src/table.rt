@@ -4,9 +4,9 @@ ghost use Rattle.script_text.specs.Table.{filter_line, member_line, filters_from
 ghost use Rattle.xio.specs.Printing.{Prints};
 
 use crate::key_text::key_print;
-use crate::name_lists::{features_print, flags_print};
 use crate::piece::{Piece, print_line};
-use crate::vocabulary::{action_name, policy_name};
+use crate::vocabulary::{BitNames, action_name, policy_name};
+use crate::word_lists::{flags_print, list_print};
 use filter_rules::{Policy, RuleRow, Rules};
 use std::alloc::Global;
 use xdp_state::{Attachment, InterfaceList, Kind, State, Tally};
@@ -32,7 +32,7 @@ fn filter_print<P: Printer>(
             Piece::Text(b" "),
         ],
     )?;
-    features_print(printer, features)?;
+    list_print(printer, BitNames::Features, features)?;
     printer.print(b"\n")
 }
 

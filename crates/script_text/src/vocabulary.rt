@@ -1,7 +1,7 @@
 //! The words of choices, in one place for what reads them and what prints them.
 
 ghost use Rattle.std.specs.Prelude.{◌≡◌, Some};
-ghost use Rattle.script_text.specs.Vocabulary.{action_name, action_of, policy_name, policy_of, mode_name, mode_of, feature_name, feature_of, address_flag_name, port_flag_name};
+ghost use Rattle.script_text.specs.Vocabulary.{action_name, action_of, policy_name, policy_of, mode_name, mode_of, feature_name, feature_of, address_flag_name, address_flag_of, port_flag_name, port_flag_of, bit_name, bit_of};
 
 use filter_rules::{Policy, features, flags};
 use xdp_state::Mode;
@@ -91,7 +91,7 @@ pub fn mode_of(word: &[u8]) -> Option<Mode>
 }
 
 /// The word of a feature's bit; it is `ethernet` for all but the four lower bits.
-pub fn feature_name(bit: u8) -> &'static [u8]
+fn feature_name(bit: u8) -> &'static [u8]
     ensures { result.now ≡ feature_name bit }
 {
     if bit == features::TCP {
@@ -108,7 +108,7 @@ pub fn feature_name(bit: u8) -> &'static [u8]
 }
 
 /// The bit of a feature's word.
-pub fn feature_of(word: &[u8]) -> Option<u8>
+fn feature_of(word: &[u8]) -> Option<u8>
     ensures { result ≡ feature_of word.now }
 {
     if word == feature_name(features::TCP) {
@@ -127,14 +127,26 @@ pub fn feature_of(word: &[u8]) -> Option<u8>
 }
 
 /// The word of an address flag's bit; it is `dst` for all but the source.
-pub fn address_flag_name(bit: u8) -> &'static [u8]
+fn address_flag_name(bit: u8) -> &'static [u8]
     ensures { result.now ≡ address_flag_name bit }
 {
     if bit == flags::SOURCE { b"src" } else { b"dst" }
 }
 
+fn address_flag_of(word: &[u8]) -> Option<u8>
+    ensures { result ≡ address_flag_of word.now }
+{
+    if word == address_flag_name(flags::SOURCE) {
+        Some(flags::SOURCE)
+    } else if word == address_flag_name(flags::TARGET) {
+        Some(flags::TARGET)
+    } else {
+        None
+    }
+}
+
 /// The word of a port flag's bit; it is `dst-udp` for all but the three lower bits.
-pub fn port_flag_name(bit: u8) -> &'static [u8]
+fn port_flag_name(bit: u8) -> &'static [u8]
     ensures { result.now ≡ port_flag_name bit }
 {
     if bit == flags::SOURCE_TCP {
@@ -145,5 +157,53 @@ pub fn port_flag_name(bit: u8) -> &'static [u8]
         b"dst-tcp"
     } else {
         b"dst-udp"
+    }
+}
+
+fn port_flag_of(word: &[u8]) -> Option<u8>
+    ensures { result ≡ port_flag_of word.now }
+{
+    if word == port_flag_name(flags::SOURCE_TCP) {
+        Some(flags::SOURCE_TCP)
+    } else if word == port_flag_name(flags::SOURCE_UDP) {
+        Some(flags::SOURCE_UDP)
+    } else if word == port_flag_name(flags::TARGET_TCP) {
+        Some(flags::TARGET_TCP)
+    } else if word == port_flag_name(flags::TARGET_UDP) {
+        Some(flags::TARGET_UDP)
+    } else {
+        None
+    }
+}
+
+/// What bits have names, of which lists are made.
+#[derive(Clone, Copy, Debug, PartialEq, Eq)]
+pub enum BitNames {
+    /// Those of the protocols are the features' too.
+    Features,
+    /// Of an address, or of any rule's two directions.
+    AddressFlags,
+    PortFlags,
+}
+
+/// The word of a bit.
+pub fn bit_name(names: BitNames, bit: u8) -> &'static [u8]
+    ensures { result.now ≡ bit_name names bit }
+{
+    match names {
+        BitNames::Features => feature_name(bit),
+        BitNames::AddressFlags => address_flag_name(bit),
+        BitNames::PortFlags => port_flag_name(bit),
+    }
+}
+
+/// The bit of a word.
+pub fn bit_of(names: BitNames, word: &[u8]) -> Option<u8>
+    ensures { result ≡ bit_of names word.now }
+{
+    match names {
+        BitNames::Features => feature_of(word),
+        BitNames::AddressFlags => address_flag_of(word),
+        BitNames::PortFlags => port_flag_of(word),
     }
 }

@@ -1,12 +1,13 @@
+use crate::frame::Frame;
 use xdp_state::Command;
-use xio::{Bytes, List};
+use xio::List;
 
 /// What a line of the script asks.
 #[derive(Debug, Drop)]
 pub enum What {
     Command(Command),
     /// A packet is handed in to the processor of its queue.
-    Packet { processor: u32, frame: Bytes },
+    Packet { processor: u32, frame: Frame },
     Barrier,
 }
 

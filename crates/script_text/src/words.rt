@@ -22,8 +22,8 @@ fn word_end(line: &[u8]) -> Option<usize>
     memchr2(b' ', b'\t', line)
 }
 
-#[tactic(auto, using(crate::proofs::WordLemmas::words_of_blanks))]
 /// The first word of a line and what stands behind it, where there is a word.
+#[tactic(auto, using(crate::proofs::WordLemmas::words_of_blanks))]
 pub fn next_word(line: &[u8]) -> Option<(&[u8], &[u8])>
     ensures words { MatchOption result (words_of line.now ≡ []) (λ split. words_of line.now ≡ split.0.now ∷ words_of split.1.now) }
     ensures shorter { IfSome result (λ split. length split.1.now < length line.now) }
@@ -48,7 +48,11 @@ fn is_printable(b: u8) -> bool
 pub fn are_printable(line: &[u8]) -> bool
     ensures { result ≡ list_all is_printable line.now }
 {
-    line.iter().all(|b| is_printable(*b))
+    let mut printable = true;
+    for b in line {
+        printable &= is_printable(*b);
+    }
+    printable
 }
 
 /// Whether a line with this first word is a comment.

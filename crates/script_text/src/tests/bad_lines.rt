@@ -83,6 +83,8 @@ fn each_rule(rt: HostRuntime) -> Result<(), Fail> {
         ("xdp-filter load eth0 -f all,tcp", 11),
         ("xdp-filter port 1 -m src,src", 11),
         ("xdp-filter port 1 -p -r", 11),
+        ("xdp-filter port 1 -p tcp,ipv4", 11),
+        ("xdp-filter port 1 -p all", 11),
         ("xdp-filter ip x -m dst,", 11),
         ("xdp-filter ether 02:00:00:00:00:1", 12),
     ];

@@ -9,7 +9,7 @@ abbrev pub invariant-loop-text : goal.invariant-loop-text
 invariant-loop-text l = record {
   reading : read_lines l.script (l.line + 1) (lines l.rest) ≡ read_lines (record { interfaces = []; lines = [] }) 1 (lines l.bytes);
   count : l.line + length (lines l.rest) ≡ length (lines l.bytes);
-  few : length (lines l.bytes) ≤ 65536;
+  few : l.line ≤ 65536;
   sound : IsSound l.script;
   lines : length l.script.lines ≤ l.line;
 }

@@ -3,7 +3,7 @@ use Rattle.std.proofs.lemmas.Bool.Decides.{nat_tests}
 use Rattle.hex.specs.Hex.{encode_lower}
 use Rattle.xio.proofs.PrintLemmas.{printed_none, printed_more, printed_stop, printed_all}
 use Rattle.script_text.proofs.PieceLemmas.{encode_lower-split, encode_lower-none}
-use Rattle.script_text.proofs.piece.print_digits.Goals as goal
+use Rattle.script_text.proofs.hexadecimal.print_digits.Goals as goal
 
 pub loop-rest-init : goal.loop-rest-init
 loop-rest-init g c = printed_none _ _ _ _

@@ -1,7 +1,7 @@
 use Rattle.std.proofs.Common.{length}
 use Rattle.hex.specs.Hex.{encode_lower}
 use Rattle.xio.proofs.PrintLemmas.{HasPrinted}
-use Rattle.script_text.proofs.piece.print_digits.Given as goal
+use Rattle.script_text.proofs.hexadecimal.print_digits.Given as goal
 
 -- the bytes that are left
 abbrev pub invariant-loop-rest : goal.invariant-loop-rest
