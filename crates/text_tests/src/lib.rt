@@ -1,5 +1,11 @@
-//! Tests of texts and captures.
+//! Tests of captures, of scripts as they are read, and of printed texts.
 #![tactic(auto)]
 
 #[cfg(test)]
+mod bad_lines;
+#[cfg(test)]
 mod captures;
+#[cfg(test)]
+mod options;
+#[cfg(test)]
+mod texts;

@@ -1,5 +1,7 @@
-use crate::{Outcome, TraceRow, end_text, outcome_text, processor_line, rules_text, trace_line};
 use filter_rules::{Policy, RuleKey};
+use script_text::{
+    Outcome, TraceRow, end_text, outcome_text, processor_line, rules_text, trace_line,
+};
 use std::alloc::Global;
 use std::test::Fail;
 use xdp_state::{Change, Interface, InterfaceList, Kind, Mode, Reason, State, Tally, Visit};

@@ -1,4 +1,4 @@
-use crate::{ScriptEnd, read_script};
+use script_text::{ScriptEnd, read_script};
 use std::alloc::Global;
 use std::test::Fail;
 

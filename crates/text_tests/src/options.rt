@@ -1,5 +1,5 @@
-use crate::{Script, What, read_script};
 use filter_rules::{Policy, RuleKey};
+use script_text::{Script, What, read_script};
 use std::alloc::Global;
 use std::test::Fail;
 use xdp_state::{Command, Mode};

@@ -1,5 +1,0 @@
-//! Scripts and texts, worked by hand.
-
-mod bad_lines;
-mod options;
-mod texts;
