@@ -2,6 +2,7 @@
 #![tactic(auto)]
 
 mod carrier;
+mod early;
 mod ended;
 mod ending;
 mod item;
