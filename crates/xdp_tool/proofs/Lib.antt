@@ -1,6 +1,7 @@
 pub mod Counts
 pub mod Due
 pub mod Ends
+pub mod Filling
 pub mod Lines
 pub mod OneTrace
 pub mod Ordering

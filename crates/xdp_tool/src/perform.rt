@@ -248,6 +248,7 @@ fn put<S: Sink>(sink: &mut S, text: &[u8]) -> Result<(), Stop>
 fn settle<S: Sink>(sink: &mut S) -> Result<(), Stop>
     ensures same { IsTrue S.tells → S.held sink.new ≡ S.held sink.old }
     ensures flushed { IsTrue S.tells → OnOk result (S.flushed sink.new ≡ length (S.held sink.new)) }
+    ensures settled { IsTrue S.tells → IsSettled S.held S.flushed S.faults sink.old sink.new }
     ensures later { S.faults sink.old ≤ S.faults sink.new }
     ensures same_setting { S.setting sink.new ≡ S.setting sink.old }
     ensures fault { result ≡ Err Stop.Fault → Rose (S.faults sink.old) (S.faults sink.new) }
