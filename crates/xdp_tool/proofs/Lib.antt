@@ -9,6 +9,7 @@ pub mod Phases
 pub mod QueueLists
 pub mod Running
 pub mod Tables
+pub mod Telling
 pub mod Turns
 pub mod Walking
 pub mod Walks
