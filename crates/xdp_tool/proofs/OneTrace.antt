@@ -165,14 +165,14 @@ traced-none t t₁ text None unmade = tt
 traced-none t t₁ text (Some name) unmade = inl (unmade-content t t₁ name unmade)
 
 -- the trace has begun since the script was read
-pub begun-all : {N : Type 0} (t t₁ t₂ : Told) (name : Option (List ℕ)) → IsUnmade t t₁ → IfSome name (λ n. HasBegun t₁ t₂ n ⊎ N) → IfSome name (λ n. HasBegun t t₂ n ⊎ N)
-begun-all t t₁ t₂ None before begun = tt
-begun-all t t₁ t₂ (Some name) before (inl has) = inl (record { made = has.made ∙ ap (λ made. made ++ name ∷ []) before.made; first = has.first })
-begun-all t t₁ t₂ (Some name) before (inr none) = inr none
+pub begun-all : (N : Type 0) (t t₁ t₂ : Told) (name : Option (List ℕ)) → IsUnmade t t₁ → IfSome name (λ n. HasBegun t₁ t₂ n ⊎ N) → IfSome name (λ n. HasBegun t t₂ n ⊎ N)
+begun-all N t t₁ t₂ None before begun = tt
+begun-all N t t₁ t₂ (Some name) before (inl has) = inl (record { made = has.made ∙ ap (λ made. made ++ name ∷ []) before.made; first = has.first })
+begun-all N t t₁ t₂ (Some name) before (inr none) = inr none
 
-pub begun-none : {N : Type 0} (t t₁ : Told) (name : Option (List ℕ)) → N → IfSome name (λ n. HasBegun t t₁ n ⊎ N)
-begun-none t t₁ None none = tt
-begun-none t t₁ (Some name) none = inr none
+pub begun-none : (N : Type 0) (t t₁ : Told) (name : Option (List ℕ)) → N → IfSome name (λ n. HasBegun t t₁ n ⊎ N)
+begun-none N t t₁ None none = tt
+begun-none N t t₁ (Some name) none = inr none
 
 -- a read, and then a trace
 pub touches-both : (t t₁ t₂ : Told) (name : List ℕ) (result : Result Script Ending) (made : Option (List ℕ)) → Reads t t₁ name result → Makes t₁ t₂ made → Touches t t₂ (name ∷ []) made
@@ -230,8 +230,10 @@ reads-part handles t t' name place ending asks = record {
   unmade = record { made = asks.made; content = asks.content; flushed = asks.flushed };
 }
 
-pub reads-none : (t t' : Told) (name : List ℕ) (ending : Ending) → t' ≡ t → Reads t t' name (Err ending)
-reads-none t t' name ending same = record {
+-- where memory was wanting the file may not have been asked for
+pub reads-wanting : (handles : ℕ → Handle) (t t' : Told) (name : List ℕ) (ending : Ending) → (t' ≡ t) ⊎ ((place : ℕ) × AsksFor handles t t' name place) → Reads t t' name (Err ending)
+reads-wanting handles t t' name ending (inr (place, asks)) = reads-part handles t t' name place ending asks
+reads-wanting handles t t' name ending (inl same) = record {
   asked = (0, ap (λ (u : Told). u.asked) same ∙ sym (append-nil t.asked));
   whole = tt;
   unmade = record { made = ap (λ (u : Told). u.made) same; content = ap (λ (u : Told). u.content) same; flushed = ap (λ (u : Told). u.flushed) same };

@@ -19,11 +19,11 @@ is_other None name = true
 is_other (Some made) name = not (pointwise nat_eq name made)
 
 -- Only the front of these names was asked for; at most this file was made, by one call, and no other one changed.
-pub record Touches (old new : Told) (names : List (List ℕ)) (made : Option (List ℕ)) : Type 0 where
+pub record Touches (old new : Told) (names : List (List ℕ)) (wanted : Option (List ℕ)) : Type 0 where
   pub asked : AppendsNames old.asked new.asked names
-  pub made : AppendsNames old.made new.made (calls_for made)
-  pub content : (name : List ℕ) → is_other made name ≡ true → new.content name ≡ old.content name
-  pub flushed : (name : List ℕ) → is_other made name ≡ true → new.flushed name ≡ old.flushed name
+  pub made : AppendsNames old.made new.made (calls_for wanted)
+  pub content : (name : List ℕ) → is_other wanted name ≡ true → new.content name ≡ old.content name
+  pub flushed : (name : List ℕ) → is_other wanted name ≡ true → new.flushed name ≡ old.flushed name
 
 -- the file was opened by one call and taken to its end
 pub record TakesWhole (old new : Told) (name : List ℕ) : Type 0 where
@@ -48,9 +48,9 @@ pub record Reads (old new : Told) (name : List ℕ) (result : Result Script Endi
   pub unmade : IsUnmade old new
 
 -- no file was read; at most this one was made, by one call, and no other one changed
-pub record Makes (old new : Told) (made : Option (List ℕ)) : Type 0 where
+pub record Makes (old new : Told) (wanted : Option (List ℕ)) : Type 0 where
   pub asked : new.asked ≡ old.asked
   pub places : new.places ≡ old.places
-  pub made : AppendsNames old.made new.made (calls_for made)
-  pub content : (name : List ℕ) → is_other made name ≡ true → new.content name ≡ old.content name
-  pub flushed : (name : List ℕ) → is_other made name ≡ true → new.flushed name ≡ old.flushed name
+  pub made : AppendsNames old.made new.made (calls_for wanted)
+  pub content : (name : List ℕ) → is_other wanted name ≡ true → new.content name ≡ old.content name
+  pub flushed : (name : List ℕ) → is_other wanted name ≡ true → new.flushed name ≡ old.flushed name

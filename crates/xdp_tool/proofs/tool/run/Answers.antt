@@ -51,7 +51,7 @@ returns-clause-read_first g c = λ tells.
 pub returns-clause-begun : goal.returns-clause-begun
 returns-clause-begun g c = λ tells.
     rw c.in-Ok.ensures.names
-    (begun-all (g.F.Files.told c.args.files.now) (g.F.Files.told c.prepare.new.files) (g.F.Files.told c.work.new.files) (name_of c.in-Ok.named.trace) (c.prepare.ensures.reads tells).unmade (c.work.ensures.begun tells))
+    (begun-all _ (g.F.Files.told c.args.files.now) (g.F.Files.told c.prepare.new.files) (g.F.Files.told c.work.new.files) (name_of c.in-Ok.named.trace) (c.prepare.ensures.reads tells).unmade (c.work.ensures.begun tells))
 
 pub returns-clause-touched : goal.returns-clause-touched
 returns-clause-touched g c = λ tells.
@@ -76,7 +76,7 @@ returns-in-Err-prepare-clause-read_first g c = λ tells.
     inr ((c.requires.none, c.flush_early.ensures.same_held), (c.prepare.ensures.reads tells).unmade)
 
 pub returns-in-Err-prepare-clause-begun : goal.returns-in-Err-prepare-clause-begun
-returns-in-Err-prepare-clause-begun g c = λ tells. begun-none _ _ _ (c.requires.none, c.flush_early.ensures.same_held)
+returns-in-Err-prepare-clause-begun g c = λ tells. begun-none _ _ _ _ (c.requires.none, c.flush_early.ensures.same_held)
 
 pub returns-in-Err-prepare-clause-touched : goal.returns-in-Err-prepare-clause-touched
 returns-in-Err-prepare-clause-touched g c = λ tells. rw c.in-Ok.ensures.names (touches-read _ _ _ c.prepare.result _ (c.prepare.ensures.reads tells))
@@ -86,7 +86,7 @@ returns-in-Err-clause-read_first g c = λ tells.
     inr ((c.requires.none, c.flush_early.ensures.same_held), record { made = refl; content = refl; flushed = refl })
 
 pub returns-in-Err-clause-begun : goal.returns-in-Err-clause-begun
-returns-in-Err-clause-begun g c = λ tells. begun-none _ _ _ (c.requires.none, c.flush_early.ensures.same_held)
+returns-in-Err-clause-begun g c = λ tells. begun-none _ _ _ _ (c.requires.none, c.flush_early.ensures.same_held)
 
 pub returns-in-Err-clause-touched : goal.returns-in-Err-clause-touched
 returns-in-Err-clause-touched g c = λ tells. touches-nothing _ _ _
