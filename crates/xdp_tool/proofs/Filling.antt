@@ -38,9 +38,8 @@ fills-stopped held flushed old middle new text worked result stopped put same = 
 }
 
 -- one that ran to its end
-pub fills-ended : {S : Type 0} (held : S → List ℕ) (flushed : S → ℕ) (old middle new : S) (text : List ℕ) (worked : Result Bool Stop) (refused : Bool) → worked ≡ Ok refused → PutsText worked (held old) (held middle) text → held new ≡ held middle → flushed new ≡ length (held new) → FillsSink held flushed old new text (Ok refused)
-fills-ended held flushed old middle new text worked refused is put same all =
-    let whole : held middle ≡ held old ++ text = rw is at put in
+pub fills-ended : {S : Type 0} (held : S → List ℕ) (flushed : S → ℕ) (old middle new : S) (text : List ℕ) (refused : Bool) → held middle ≡ held old ++ text → held new ≡ held middle → flushed new ≡ length (held new) → FillsSink {E = Stop} held flushed old new text (Ok refused)
+fills-ended held flushed old middle new text refused whole same all =
     record { front = prefix-whole _ _ _ (same ∙ whole); whole = same ∙ whole; all_flushed = all }
 
 pub performs-stopped : (phases : List Phase) (choices : List (List (List ℕ))) (worked result : Result Bool Stop) → IsErr result → Performs phases choices worked → Performs phases choices result

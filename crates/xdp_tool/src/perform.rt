@@ -86,7 +86,7 @@ fn work_traced<O: Sink, T: Sink>(
         (O.held out.old) (O.held out.new) (λ text. AppendsPrefix (T.held trace.old) (T.held trace.new) text) }
     ensures fault { result ≡ Err Stop.Fault → Rises O.faults out.old out.new ⊎ Rises T.faults trace.old trace.new }
     ensures same_out { KeepsSink O.faults O.setting out.old out.new }
-    ensures same_trace { T.setting trace.new ≡ T.setting trace.old }
+    ensures same_trace { KeepsSink T.faults T.setting trace.old trace.new }
 {
     start_trace(traced, trace)?;
     work(alloc, script, traced, out, trace, choices)

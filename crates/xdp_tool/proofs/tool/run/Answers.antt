@@ -61,11 +61,11 @@ returns-clause-touched g c = λ tells.
 pub returns-in-Err-prepare-clause-ordered : goal.returns-in-Err-prepare-clause-ordered
 returns-in-Err-prepare-clause-ordered g c = λ tells told.
     let script = script_by c.args.words.now (g.F.Files.told c.args.files.now) in
-    (0, rw (c.flush_early.ensures.same_held told) (none-whole (interfaces_of script) (phases_of script Whole) _), traced-none _ _ _ _ (c.prepare.ensures.reads tells).unmade)
+    (0, rw (c.flush_early-in-Err-prepare.ensures.same_held told) (none-whole (interfaces_of script) (phases_of script Whole) _), traced-none _ _ _ _ (c.prepare.ensures.reads tells).unmade)
 
 pub returns-in-Err-prepare-clause-out : goal.returns-in-Err-prepare-clause-out
 returns-in-Err-prepare-clause-out g c = λ tells told.
-    leaves-early g.O.Sink.held c.args.out.now c.flush_early.new.out (script_by c.args.words.now (g.F.Files.told c.args.files.now)) c.in-Err-prepare.ending c.args.choices.now (rw c.in-Ok.ensures.names (c.in-Err-prepare.ensures.script tells)) c.in-Err-prepare.ensures.failed (c.flush_early.ensures.same_held told)
+    leaves-early g.O.Sink.held c.args.out.now c.flush_early-in-Err-prepare.new.out (script_by c.args.words.now (g.F.Files.told c.args.files.now)) c.in-Err-prepare.ending c.args.choices.now (rw c.in-Ok.ensures.names (c.in-Err-prepare.ensures.script tells)) c.in-Err-prepare.ensures.failed (c.flush_early-in-Err-prepare.ensures.same_held told)
 
 pub returns-in-Err-prepare-clause-trace : goal.returns-in-Err-prepare-clause-trace
 returns-in-Err-prepare-clause-trace g c = λ tells.
@@ -73,10 +73,10 @@ returns-in-Err-prepare-clause-trace g c = λ tells.
 
 pub returns-in-Err-prepare-clause-read_first : goal.returns-in-Err-prepare-clause-read_first
 returns-in-Err-prepare-clause-read_first g c = λ tells.
-    inr ((c.requires.none, c.flush_early.ensures.same_held), (c.prepare.ensures.reads tells).unmade)
+    inr ((c.requires.none, c.flush_early-in-Err-prepare.ensures.same_held), (c.prepare.ensures.reads tells).unmade)
 
 pub returns-in-Err-prepare-clause-begun : goal.returns-in-Err-prepare-clause-begun
-returns-in-Err-prepare-clause-begun g c = λ tells. begun-none _ _ _ _ (c.requires.none, c.flush_early.ensures.same_held)
+returns-in-Err-prepare-clause-begun g c = λ tells. begun-none _ _ _ _ (c.requires.none, c.flush_early-in-Err-prepare.ensures.same_held)
 
 pub returns-in-Err-prepare-clause-touched : goal.returns-in-Err-prepare-clause-touched
 returns-in-Err-prepare-clause-touched g c = λ tells. rw c.in-Ok.ensures.names (touches-read _ _ _ c.prepare.result _ (c.prepare.ensures.reads tells))
@@ -90,3 +90,8 @@ returns-in-Err-clause-begun g c = λ tells. begun-none _ _ _ _ (c.requires.none,
 
 pub returns-in-Err-clause-touched : goal.returns-in-Err-clause-touched
 returns-in-Err-clause-touched g c = λ tells. touches-nothing _ _ _
+
+pub returns-in-Err-clause-ordered : goal.returns-in-Err-clause-ordered
+returns-in-Err-clause-ordered g c = λ tells told.
+    let script = script_by c.args.words.now (g.F.Files.told c.args.files.now) in
+    (0, rw (c.flush_early.ensures.same_held told) (none-whole (interfaces_of script) (phases_of script Whole) _), traced-none _ _ _ _ (record { made = refl; content = refl; flushed = refl }))

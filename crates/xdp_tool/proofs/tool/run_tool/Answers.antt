@@ -16,3 +16,6 @@ returns-clause-explained g c = λ tells. (
 pub returns-clause-traced : goal.returns-clause-traced
 returns-clause-traced g c = λ tells ended.
     rw c.ended_so.ensures.choices (trace-whole _ _ _ _ _ (told-end c.tell.result c.run-ending.result c.tell.ensures.same (sym (ap is_end c.ended_so.ensures.status) ∙ ended)) (c.run-ending.ensures.trace tells))
+
+pub returns-clause-ordered : goal.returns-clause-ordered
+returns-clause-ordered g c = λ tells told. rw c.ended_so.ensures.choices (c.run-ending.ensures.ordered tells told)

@@ -10,10 +10,12 @@ use Rattle.xdp_tool.specs.Traversed.{trace_for}
 use Rattle.xdp_tool.proofs.traced.perform_into.Goals as goal
 
 pub returns-in-Err-Failed-clause-makes : goal.returns-in-Err-Failed-clause-makes
-returns-in-Err-Failed-clause-makes g c = λ tells. makes-failed _ _ _ (c.in-Err-Failed.ensures.told_after tells)
+returns-in-Err-Failed-clause-makes g c = λ tells.
+    makes-failed (g.F.Files.told c.args.files.now) (g.F.Files.told c.make_file.new.self) c.args.name.now (rw c.in-Err-Failed.field-0-is at (c.in-Err-Failed.ensures.told_after tells))
 
 pub returns-in-Err-OutOfMemory-clause-makes : goal.returns-in-Err-OutOfMemory-clause-makes
-returns-in-Err-OutOfMemory-clause-makes g c = λ tells. makes-none _ _ _ (c.in-Err-OutOfMemory.ensures.told_after tells)
+returns-in-Err-OutOfMemory-clause-makes g c = λ tells.
+    makes-none (g.F.Files.told c.args.files.now) (g.F.Files.told c.make_file.new.self) (Some c.args.name.now) (rw c.in-Err-OutOfMemory.field-0-is at (c.in-Err-OutOfMemory.ensures.told_after tells))
 
 pub returns-clause-makes : goal.returns-clause-makes
 returns-clause-makes g c = λ tells.
@@ -39,7 +41,7 @@ returns-in-Err-Failed-clause-ordered g c = λ tells told.
 
 pub returns-in-Err-OutOfMemory-clause-ordered : goal.returns-in-Err-OutOfMemory-clause-ordered
 returns-in-Err-OutOfMemory-clause-ordered g c = λ tells told.
-    (0, rw (c.flush_early.ensures.same_held told) (none-whole c.args.script.now.interfaces (plan c.args.script.now) _), search (rules, c.in-Err-OutOfMemory.ensures.told_after tells))
+    (0, rw (c.flush_early-in-Err-OutOfMemory.ensures.same_held told) (none-whole c.args.script.now.interfaces (plan c.args.script.now) _), search (rules, c.in-Err-OutOfMemory.ensures.told_after tells))
 
 pub returns-clause-ordered : goal.returns-clause-ordered
 returns-clause-ordered g c = λ tells told.
