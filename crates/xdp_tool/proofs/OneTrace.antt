@@ -128,6 +128,9 @@ fills-made t t₁ t₂ t₃ text name n n₂ (Ok x) made file same₂ last front
       };
     }
 
+pub unmade-still : (t : Told) → IsUnmade t t
+unmade-still t = record { made = refl; content = refl; flushed = refl }
+
 -- a read changes no file
 pub unmade-content : (t t' : Told) (name : List ℕ) → IsUnmade t t' → t'.content name ≡ t.content name
 unmade-content t t' name unmade = ap (λ f. f name) unmade.content

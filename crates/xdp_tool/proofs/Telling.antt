@@ -1,5 +1,5 @@
 -- What a run promises by its end, and by what is said of it.
-use Rattle.std.proofs.Common.{◌≡◌, ◌⊎◌, ℕ, Bool, true, false, inl, inr, List, [], ◌++◌, append-nil, length, Result, Ok, Err, Option, Some, None, IfSome, OnOk, refl, sym, ap, ◌∙◌}
+use Rattle.std.proofs.Common.{◌≡◌, ◌⊎◌, ℕ, Bool, true, false, inl, inr, List, [], append-nil, Result, Ok, Err, Option, Some, None, IfSome, OnOk, refl, sym, ap, ◌∙◌}
 use Rattle.std.proofs.lemmas.Bool.{false≢true}
 use Rattle.script_text.specs.declared.script.Script.{Script}
 use Rattle.xio.specs.Told.{Told}

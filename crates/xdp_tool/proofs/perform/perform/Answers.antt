@@ -1,7 +1,6 @@
 use Rattle.std.proofs.Common.{refl}
 use Rattle.xdp_tool.specs.Plan.{plan}
-use Rattle.xdp_tool.proofs.Filling.{begun-settled, fills-ended, fills-stopped, performs-stopped}
-use Rattle.xdp_tool.proofs.Ordering.{settled-ordered}
+use Rattle.xdp_tool.proofs.Filling.{fills-ended, fills-stopped, performs-stopped}
 use Rattle.xdp_tool.proofs.perform.perform.Goals as goal
 
 pub returns-in_err-refused-clause-out : goal.returns-in_err-refused-clause-out

@@ -1,9 +1,8 @@
-use Rattle.std.proofs.Common.{◌≡◌, [], ◌∷◌, ◌∙◌, false, ap, refl, sym, inl, inr}
-use Rattle.xdp_tool.specs.Ending.{status_of}
-use Rattle.xdp_tool.specs.Headline.{is_end, names_by, script_by, trace_name}
+use Rattle.std.proofs.Common.{◌∙◌, inl, inr}
+use Rattle.xdp_tool.specs.Headline.{script_by}
 use Rattle.xdp_tool.specs.Named.{name_of}
 use Rattle.xdp_tool.specs.Outcome.{Whole, interfaces_of, phases_of}
-use Rattle.xdp_tool.proofs.OneTrace.{begun-all, begun-none, leaves-none, leaves-trace, taken-still, touches-both, touches-nothing, touches-read, traced-all, traced-none}
+use Rattle.xdp_tool.proofs.OneTrace.{begun-all, begun-none, leaves-none, leaves-trace, taken-still, touches-both, touches-nothing, touches-read, traced-all, traced-none, unmade-still}
 use Rattle.xdp_tool.proofs.Ordering.{none-whole}
 use Rattle.xdp_tool.proofs.Telling.{decided-by, explained-by, flushed-ended, leaves-early, leaves-out}
 use Rattle.xdp_tool.proofs.tool.run.Goals as goal
@@ -83,7 +82,7 @@ returns-in-Err-prepare-clause-touched g c = λ tells. rw c.in-Ok.ensures.names (
 
 pub returns-in-Err-clause-read_first : goal.returns-in-Err-clause-read_first
 returns-in-Err-clause-read_first g c = λ tells.
-    inr ((c.requires.none, c.flush_early.ensures.same_held), record { made = refl; content = refl; flushed = refl })
+    inr ((c.requires.none, c.flush_early.ensures.same_held), unmade-still (g.F.Files.told c.args.files.now))
 
 pub returns-in-Err-clause-begun : goal.returns-in-Err-clause-begun
 returns-in-Err-clause-begun g c = λ tells. begun-none _ _ _ _ (c.requires.none, c.flush_early.ensures.same_held)
@@ -94,4 +93,4 @@ returns-in-Err-clause-touched g c = λ tells. touches-nothing _ _ _
 pub returns-in-Err-clause-ordered : goal.returns-in-Err-clause-ordered
 returns-in-Err-clause-ordered g c = λ tells told.
     let script = script_by c.args.words.now (g.F.Files.told c.args.files.now) in
-    (0, rw (c.flush_early.ensures.same_held told) (none-whole (interfaces_of script) (phases_of script Whole) _), traced-none _ _ _ _ (record { made = refl; content = refl; flushed = refl }))
+    (0, rw (c.flush_early.ensures.same_held told) (none-whole (interfaces_of script) (phases_of script Whole) _), traced-none (g.F.Files.told c.args.files.now) (g.F.Files.told c.args.files.now) _ _ (unmade-still (g.F.Files.told c.args.files.now)))

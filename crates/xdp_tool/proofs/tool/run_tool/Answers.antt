@@ -1,6 +1,5 @@
 use Rattle.std.proofs.Common.{ap, ◌∙◌, sym}
-use Rattle.xdp_tool.specs.Ending.{status_of}
-use Rattle.xdp_tool.specs.Headline.{is_decided, is_end}
+use Rattle.xdp_tool.specs.Headline.{is_end}
 use Rattle.xdp_tool.specs.Outcome.{Whole}
 use Rattle.xdp_tool.proofs.Telling.{explained-told, told-end, trace-front, trace-whole}
 use Rattle.xdp_tool.proofs.tool.run_tool.Goals as goal

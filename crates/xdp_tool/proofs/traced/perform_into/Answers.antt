@@ -1,9 +1,8 @@
-use Rattle.std.proofs.Common.{[], Some, ap, inl, inr, refl, rules, take, true}
+use Rattle.std.proofs.Common.{Some, ap, rules, take, true}
 use Rattle.xio.specs.Lent.{SinkSetting}
-use Rattle.xdp_tool.specs.Sinks.{FillsFile, HasBegun}
+use Rattle.xdp_tool.specs.Sinks.{FillsFile}
 use Rattle.xdp_tool.specs.Touched.{Makes}
-use Rattle.xdp_tool.specs.Trace.{first_line}
-use Rattle.xdp_tool.proofs.OneTrace.{begun_made, fills-made, makes-failed, makes-none, makes-one, told-of, traced_made}
+use Rattle.xdp_tool.proofs.OneTrace.{fills-made, makes-failed, makes-none, makes-one, told-of, traced_made}
 use Rattle.xdp_tool.proofs.Ordering.{none-whole}
 use Rattle.xdp_tool.specs.Plan.{plan}
 use Rattle.xdp_tool.specs.Traversed.{trace_for}
