@@ -1,6 +1,7 @@
 pub mod Counts
 pub mod Due
 pub mod Ends
+pub mod Filling
 pub mod Lines
 pub mod OneTrace
 pub mod Ordering
@@ -8,6 +9,7 @@ pub mod Phases
 pub mod QueueLists
 pub mod Running
 pub mod Tables
+pub mod Telling
 pub mod Turns
 pub mod Walking
 pub mod Walks

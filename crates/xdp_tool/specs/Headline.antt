@@ -1,5 +1,5 @@
 -- What the top call promises of a run, of a script or of what kept the run from its first line.
-use Rattle.std.specs.Prelude.{◌≡◌, ◌⊎◌, ℕ, ◌==◌, ◌||◌, ◌&&◌, Bool, true, not, nat_eq, Option, Some, None, List, [], ◌∷◌, ◌++◌, length, take, map, Result, Ok, Err, if◌then◌else◌}
+use Rattle.std.specs.Prelude.{◌≡◌, ℕ, ◌==◌, ◌||◌, Bool, true, Option, None, List, [], ◌∷◌, length, map, Result, Ok, Err, if◌then◌else◌}
 use Rattle.std.specs.Prelude.{String}
 use Rattle.std.specs.String.{string_bytes}
 use Rattle.xio.specs.Told.{Told}
@@ -7,17 +7,22 @@ use Rattle.script_text.specs.declared.script.Script.{Script}
 use Rattle.xdp_state.specs.Legal.{AreLegal}
 use Rattle.xdp_state.specs.Work.{plan_of}
 use Rattle.xdp_tool.specs.Ending.{status_of, line_of, err_text}
-use Rattle.xdp_tool.specs.Outcome.{Cut, Whole, phases_of, interfaces_of, ending_after}
+use Rattle.xdp_tool.specs.Outcome.{Cut, Whole, prepared, phases_of, interfaces_of, ending_after}
 use Rattle.xdp_tool.specs.Plan.{works_of}
 use Rattle.xdp_tool.specs.Traversed.{out_for, trace_for}
-use Rattle.xdp_tool.specs.Words.{Names}
-use Rattle.std.specs.Cmp.Lexicographic.{pointwise}
-use Rattle.xio.specs.Prefixes.{AppendsPrefix}
+use Rattle.xdp_tool.specs.Words.{Names, names_in}
 use Rattle.xdp_tool.specs.declared.ending.Ending.{Ending}
 use Rattle.xdp_tool.specs.declared.ending.Ending.TheVariants.{Fault, OutOfMemory}
 
 abbrev pub words_of : {A : Type 0} → List (String A) → List (List ℕ)
 words_of words = map string_bytes words
+
+-- what the words name, and what is prepared of them with the told contents
+abbrev pub names_by : {A : Type 0} → List (String A) → Result Names Ending
+names_by words = names_in (words_of words)
+
+abbrev pub script_by : {A : Type 0} → List (String A) → Told → Result Script Ending
+script_by words told = prepared (words_of words) told.content
 
 -- a status that is a function of the inputs: that of a run which neither met a fault nor wanted memory
 abbrev pub is_decided : ℕ → Bool
@@ -67,33 +72,15 @@ abbrev pub asked_names : Result Names Ending → List (List ℕ)
 asked_names (Ok names) = names.script ∷ []
 asked_names (Err _) = []
 
+abbrev pub script_name : Result Names Ending → List ℕ
+script_name (Ok names) = names.script
+script_name (Err _) = []
+
 abbrev pub trace_name : Result Names Ending → Option (List ℕ)
 trace_name (Ok names) = names.trace
 trace_name (Err _) = None
 
--- the file is as it was, or it was made and holds the front of its text
-abbrev pub IsTracedUpTo : Told → Told → List ℕ → List ℕ → Type 0
-IsTracedUpTo old new text name = (new.content name ≡ old.content name) ⊎ AppendsPrefix [] (new.content name) text
-
--- the file holds its text, all of it flushed
-pub record IsTraced (new : Told) (text name : List ℕ) : Type 0 where
-  pub content : new.content name ≡ text
-  pub flushed : new.flushed name ≡ length text
-
-abbrev pub AppendsNames : List (List ℕ) → List (List ℕ) → List (List ℕ) → Type 0
-AppendsNames old new names = (n : ℕ) × (new ≡ old ++ take n names)
-
--- is this another name than that of the file that may be made?
-abbrev pub is_other : Option (List ℕ) → List ℕ → Bool
-is_other None name = true
-is_other (Some made) name = not (pointwise nat_eq name made)
-
--- only the front of these names was asked for, and no file but this one was made or changed
-pub record Touches (old new : Told) (names : List (List ℕ)) (made : Option (List ℕ)) : Type 0 where
-  pub asked : AppendsNames old.asked new.asked names
-  pub content : (name : List ℕ) → is_other made name ≡ true → new.content name ≡ old.content name
-  pub flushed : (name : List ℕ) → is_other made name ≡ true → new.flushed name ≡ old.flushed name
-
--- no file is made where a run ends before the first line
-abbrev pub made_name : Result Names Ending → ℕ → Option (List ℕ)
-made_name names status = if is_decided status && not (is_end status) then None else trace_name names
+-- the file that may be made: none where the words or the script end the run before its first line
+abbrev pub made_name : Result Names Ending → Result Script Ending → Option (List ℕ)
+made_name names (Ok _) = trace_name names
+made_name names (Err _) = None

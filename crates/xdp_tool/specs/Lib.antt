@@ -12,6 +12,8 @@ pub mod Queues
 pub mod Ran
 pub mod Run
 pub mod Runnable
+pub mod Sinks
+pub mod Touched
 pub mod Texts
 pub mod Trace
 pub mod Traversed

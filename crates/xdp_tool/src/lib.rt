@@ -3,6 +3,7 @@
 
 mod carrier;
 mod closed;
+mod early;
 mod ended;
 mod ending;
 mod item;

@@ -10,6 +10,7 @@ ghost use Rattle.xdp_tool.specs.PhaseEnd.{EndsText, EndsChoices, PutsText};
 ghost use Rattle.xdp_tool.specs.Plan.{Phase, closed, has_refusal, next_of, plan, works_of};
 ghost use Rattle.xdp_tool.specs.Ran.{IsStanding, Stands, at_hand_in};
 ghost use Rattle.xdp_tool.specs.Runnable.{IsRunnable};
+ghost use Rattle.xdp_tool.specs.Sinks.{FillsSink, IsOrdered, IsSettled, IsUnbegun, KeepsSink, Performs, Rises};
 ghost use Rattle.xdp_tool.specs.Texts.{phase_text};
 ghost use Rattle.xdp_tool.specs.Trace.{first_line, traced_text};
 ghost use Rattle.xdp_tool.specs.Traversed.{out_for, trace_for, traces_for};
@@ -30,7 +31,8 @@ pub enum Stop {
 }
 
 /// Runs a script, and answers whether a command was refused. The choices get each phase that ended, whose text is then
-/// written to out, and its trace where one is wanted.
+/// written to out, and its trace where one is wanted. Out is flushed however the run ends, and the trace after it where the
+/// script ran to its end.
 pub fn perform<O: Sink, T: Sink>(
     alloc: Global,
     script: &Script,
@@ -41,35 +43,54 @@ pub fn perform<O: Sink, T: Sink>(
 ) -> Result<bool, Stop>
     requires none { choices.old ≡ [] }
     requires script { IsRunnable script.now }
-    ensures legal { AreLegal (plan_of (works_of (plan script.now))) choices.new }
-    ensures covered { OnOk result (length choices.new ≡ length (plan script.now)) }
-    ensures refused { IfOk result (λ refused. refused ≡ has_refusal (plan script.now)) }
-    ensures out_front { IsTrue O.tells → AppendsPrefix (O.held out.old) (O.held out.new)
-        (out_for script.now.interfaces (plan script.now) choices.new) }
-    ensures out_whole { IsTrue O.tells → OnOk result (O.held out.new
-        ≡ O.held out.old ++ out_for script.now.interfaces (plan script.now) choices.new) }
-    ensures out_flushed { IsTrue O.tells → OnOk result (O.flushed out.new ≡ length (O.held out.new)) }
-    ensures trace_front { IsTrue T.tells → AppendsPrefix (T.held trace.old) (T.held trace.new)
-        (trace_for traced script.now.interfaces (plan script.now) choices.new) }
-    ensures trace_whole { IsTrue T.tells → OnOk result (T.held trace.new
-        ≡ T.held trace.old ++ trace_for traced script.now.interfaces (plan script.now) choices.new) }
-    ensures trace_flushed { IsTrue T.tells → OnOk result (T.flushed trace.new ≡ length (T.held trace.new)) }
-    ensures ordered { IsTrue O.tells → IsTrue T.tells → (ended : ℕ)
-        × AppendsWhole (O.held out.old) (O.held out.new)
-        (out_for script.now.interfaces (plan script.now) (take ended choices.new))
-        × AppendsPrefix (T.held trace.old) (T.held trace.new)
-        (trace_for traced script.now.interfaces (plan script.now) (take ended choices.new)) }
-    ensures fault { result ≡ Err Stop.Fault
-        → Rose (O.faults out.old) (O.faults out.new) ⊎ Rose (T.faults trace.old) (T.faults trace.new) }
-    ensures out_later { O.faults out.old ≤ O.faults out.new }
-    ensures same_out { O.setting out.new ≡ O.setting out.old }
+    ensures performed { Performs (plan script.now) choices.new result }
+    ensures out { IsTrue O.tells → FillsSink O.held O.flushed out.old out.new
+        (out_for script.now.interfaces (plan script.now) choices.new) result }
+    ensures settled { IsTrue O.tells → IsSettled O.held O.flushed O.faults out.old out.new }
+    ensures trace { IsTrue T.tells → FillsSink T.held T.flushed trace.old trace.new
+        (trace_for traced script.now.interfaces (plan script.now) choices.new) result }
+    ensures begun { IsTrue T.tells → AppendsWhole (T.held trace.old) (T.held trace.new) (if traced then first_line else [])
+        ⊎ IsUnbegun O.tells (O.held out.old) (O.held out.new) choices.new }
+    ensures ordered { IsTrue O.tells → IsTrue T.tells → IsOrdered traced script.now.interfaces (plan script.now) choices.new
+        (O.held out.old) (O.held out.new) (λ text. AppendsPrefix (T.held trace.old) (T.held trace.new) text) }
+    ensures fault { result ≡ Err Stop.Fault → Rises O.faults out.old out.new ⊎ Rises T.faults trace.old trace.new }
+    ensures same_out { KeepsSink O.faults O.setting out.old out.new }
     ensures same_trace { T.setting trace.new ≡ T.setting trace.old }
 {
-    start_trace(traced, trace)?;
-    let refused = work(alloc, script, traced, out, trace, choices)?;
-    settle(out)?;
+    let worked = work_traced(alloc, script, traced, out, trace, choices);
+    let settled = settle(out);
+    let refused = worked?;
+    settled?;
     settle(trace)?;
     Ok(refused)
+}
+
+/// As `perform`, without the flushes.
+fn work_traced<O: Sink, T: Sink>(
+    alloc: Global,
+    script: &Script,
+    traced: bool,
+    out: &mut O,
+    trace: &mut T,
+    choices: &mut Choices,
+) -> Result<bool, Stop>
+    requires none { choices.old ≡ [] }
+    requires script { IsRunnable script.now }
+    ensures performed { Performs (plan script.now) choices.new result }
+    ensures out { IsTrue O.tells → PutsText result (O.held out.old) (O.held out.new)
+        (out_for script.now.interfaces (plan script.now) choices.new) }
+    ensures trace { IsTrue T.tells → PutsText result (T.held trace.old) (T.held trace.new)
+        (trace_for traced script.now.interfaces (plan script.now) choices.new) }
+    ensures begun { IsTrue T.tells → AppendsWhole (T.held trace.old) (T.held trace.new) (if traced then first_line else [])
+        ⊎ IsUnbegun O.tells (O.held out.old) (O.held out.new) choices.new }
+    ensures ordered { IsTrue O.tells → IsTrue T.tells → IsOrdered traced script.now.interfaces (plan script.now) choices.new
+        (O.held out.old) (O.held out.new) (λ text. AppendsPrefix (T.held trace.old) (T.held trace.new) text) }
+    ensures fault { result ≡ Err Stop.Fault → Rises O.faults out.old out.new ⊎ Rises T.faults trace.old trace.new }
+    ensures same_out { KeepsSink O.faults O.setting out.old out.new }
+    ensures same_trace { KeepsSink T.faults T.setting trace.old trace.new }
+{
+    start_trace(traced, trace)?;
+    work(alloc, script, traced, out, trace, choices)
 }
 
 /// Writes the trace's first line, where a trace is wanted.
@@ -201,6 +222,7 @@ fn put<S: Sink>(sink: &mut S, text: &[u8]) -> Result<(), Stop>
 fn settle<S: Sink>(sink: &mut S) -> Result<(), Stop>
     ensures same { IsTrue S.tells → S.held sink.new ≡ S.held sink.old }
     ensures flushed { IsTrue S.tells → OnOk result (S.flushed sink.new ≡ length (S.held sink.new)) }
+    ensures settled { IsTrue S.tells → IsSettled S.held S.flushed S.faults sink.old sink.new }
     ensures later { S.faults sink.old ≤ S.faults sink.new }
     ensures same_setting { S.setting sink.new ≡ S.setting sink.old }
     ensures fault { result ≡ Err Stop.Fault → Rose (S.faults sink.old) (S.faults sink.new) }

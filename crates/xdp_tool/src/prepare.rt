@@ -1,10 +1,11 @@
-ghost use Rattle.std.specs.Prelude.{◌≡◌, ◌≢◌, ◌≤◌, [], ◌∷◌, true, false, length, Err, IfOk, IfErr, IsTrue, None};
-ghost use Rattle.xio.specs.Causes.{Rose};
+ghost use Rattle.std.specs.Prelude.{◌≡◌, ◌≢◌, ◌≤◌, false, length, Err, IfOk, IfErr, OnOk, IsTrue};
 ghost use Rattle.xdp_tool.specs.Ending.{status_of};
-ghost use Rattle.xdp_tool.specs.Headline.{is_end, Touches};
+ghost use Rattle.xdp_tool.specs.Headline.{is_end};
 ghost use Rattle.xdp_tool.specs.Named.{Prepares};
 ghost use Rattle.xdp_tool.specs.Outcome.{script_at};
 ghost use Rattle.xdp_tool.specs.Runnable.{IsRunnable};
+ghost use Rattle.xdp_tool.specs.Sinks.{Rises};
+ghost use Rattle.xdp_tool.specs.Touched.{Reads};
 
 use crate::ending::{Ending, LimitName};
 use script_text::{Script, ScriptEnd, read_script};
@@ -19,9 +20,10 @@ pub fn prepare<F: Files>(alloc: Global, files: &mut F, name: &str) -> Result<Scr
     ensures script { IsTrue F.tells → Prepares result (script_at ((F.told files.old).content name.now)) }
     ensures runnable { IfOk result IsRunnable }
     ensures failed { IfErr result (λ ending. is_end (status_of ending) ≡ false) }
-    ensures fault { result ≡ Err Ending.Fault → Rose (F.read_faults files.old) (F.read_faults files.new) }
+    ensures fault { result ≡ Err Ending.Fault → Rises F.read_faults files.old files.new }
+    ensures same_read_faults { OnOk result (F.read_faults files.new ≡ F.read_faults files.old) }
     ensures same_write_faults { F.write_faults files.new ≡ F.write_faults files.old }
-    ensures touched { IsTrue F.tells → Touches (F.told files.old) (F.told files.new) (name.now ∷ []) None }
+    ensures reads { IsTrue F.tells → Reads (F.told files.old) (F.told files.new) name.now result }
     ensures same_handles { F.handles files.new ≡ F.handles files.old }
 {
     let mut bytes = Bytes::new(alloc);

@@ -1,8 +1,9 @@
 use crate::{Ended, run_tool};
 use std::alloc::{AllocError, Global};
 use std::test::Fail;
-use xio::{MemoryFiles, MemorySink};
+use xio::{MemoryFiles, MemorySink, OutOfMemory, Sink};
 
+mod faults;
 mod scripts;
 mod words;
 
@@ -32,6 +33,11 @@ impl Finished {
         self.out.bytes() == out.as_bytes() && self.err.bytes() == err.as_bytes()
     }
 
+    /// Whether one more call of out fails.
+    fn next_fails(&mut self) -> bool {
+        self.out.write(b"more").is_err()
+    }
+
     fn traced(&self, trace: Option<&str>) -> bool {
         match (self.files.content("t"), trace) {
             (Some(content), Some(trace)) => content == trace.as_bytes(),
@@ -41,19 +47,36 @@ impl Finished {
     }
 }
 
-/// What of the outside fails: calls of out, by their numbers, and the room of each file that is made.
+/// What of the outside fails, calls by their numbers from 1, and the place of the script that can't be read; the room of each
+/// file that is made, and what the trace's file holds before the run.
 #[derive(Clone, Copy)]
 struct Outside<'a> {
-    failing: &'a [u32],
+    out: &'a [u32],
+    files: &'a [u32],
+    bad_place: Option<u64>,
     room: u32,
+    trace: Option<&'a str>,
 }
 
 const STEADY: Outside<'static> = Outside {
-    failing: &[],
+    out: &[],
+    files: &[],
+    bad_place: None,
     room: 1000,
+    trace: None,
 };
 
-/// Runs these words, where the file `s` holds the script.
+/// The files `s`, which holds the script, and `t` where the trace's file is there before.
+fn files_of(alloc: Global, script: &str, outside: Outside<'_>) -> Result<MemoryFiles, OutOfMemory> {
+    let mut files = MemoryFiles::new(alloc, outside.room, outside.files)?;
+    files.add("s", script.as_bytes(), outside.bad_place)?;
+    if let Some(trace) = outside.trace {
+        files.add("t", trace.as_bytes(), None)?;
+    }
+    Ok(files)
+}
+
+/// Runs these words over these files.
 fn run(
     alloc: Global,
     texts: &[&str],
@@ -61,9 +84,8 @@ fn run(
     outside: Outside<'_>,
 ) -> Result<Finished, Fail> {
     let words = words_of(alloc, texts)?;
-    let mut files = MemoryFiles::new(alloc, outside.room, &[])?;
-    files.add("s", script.as_bytes(), None)?;
-    let mut out = MemorySink::new(alloc, 2000, outside.failing)?;
+    let mut files = files_of(alloc, script, outside)?;
+    let mut out = MemorySink::new(alloc, 2000, outside.out)?;
     let mut err = MemorySink::new(alloc, 1000, &[])?;
     let ended = run_tool(alloc, words.as_slice(), &mut files, &mut out, &mut err);
     Ok(Finished {

@@ -1,19 +1,17 @@
-ghost use Rattle.std.specs.Prelude.{◌≡◌, ◌⊎◌, ◌≤◌, ◌++◌, ℕ, true, false, [], length, take, IsTrue, IfSome, OnOk, IfOk, Err};
-ghost use Rattle.xio.specs.Causes.{Rose};
+ghost use Rattle.std.specs.Prelude.{◌≡◌, ◌⊎◌, ◌++◌, true, false, [], length, IsTrue, IfSome, is_err, Err};
 ghost use Rattle.xio.specs.Prefixes.{AppendsPrefix, AppendsUnless};
-ghost use Rattle.xdp_tool.specs.Ending.{status_of};
-ghost use Rattle.xdp_tool.specs.Headline.{words_of, is_status, is_decided, is_end, is_whole, IsDecided, IsExplained, IsTraced, IsTracedUpTo, out_of, trace_of, said, asked_names, trace_name, made_name, Touches};
-ghost use Rattle.xdp_state.specs.Legal.{AreLegal};
-ghost use Rattle.xdp_state.specs.Work.{plan_of};
+ghost use Rattle.xdp_tool.specs.Ending.{line_of, status_of};
+ghost use Rattle.xdp_tool.specs.Headline.{is_status, is_decided, is_end, is_whole, IsDecided, IsExplained, out_of, trace_of, said, names_by, script_by, asked_names, script_name, trace_name, made_name};
 ghost use Rattle.xdp_tool.specs.Named.{name_of};
-ghost use Rattle.xdp_tool.specs.Order.{AppendsWhole};
-ghost use Rattle.xdp_tool.specs.Outcome.{Cut, Whole, prepared, ending_after};
-ghost use Rattle.xdp_tool.specs.Plan.{plan, has_refusal, works_of};
+ghost use Rattle.xdp_tool.specs.Outcome.{Cut, Whole, ending_after, interfaces_of, phases_of};
+ghost use Rattle.xdp_tool.specs.Plan.{plan};
 ghost use Rattle.xdp_tool.specs.Run.{ending_of};
 ghost use Rattle.xdp_tool.specs.Runnable.{IsRunnable};
+ghost use Rattle.xdp_tool.specs.Sinks.{FillsFile, FillsSink, HasBegun, IsOrdered, IsSettled, IsTraced, IsTracedUpTo, IsUnbegun, KeepsSink, LeavesOut, LeavesTrace, Performs, Rises};
+ghost use Rattle.xdp_tool.specs.Touched.{IsReadWhole, IsUnmade, Makes, Touches};
 ghost use Rattle.xdp_tool.specs.Traversed.{out_for, trace_for};
-ghost use Rattle.xdp_tool.specs.Words.{names_in};
 
+use crate::early::flush_early;
 use crate::ended::Ended;
 use crate::ending::Ending;
 use crate::perform::{Stop, perform};
@@ -35,86 +33,67 @@ pub fn run_tool<F: Files, O: Sink, E: Sink>(
     out: &mut O,
     err: &mut E,
 ) -> Ended
-    // There are six statuses, and only a broken rule names a line.
+    // Want of memory is free; any other status but that of a fault is a function of words and files.
     ensures known { is_status result.status ≡ true }
     ensures no_line { is_decided result.status ≡ false → result.line ≡ 0 }
-
-    // A fault comes only where the files or out failed in this call.
-    ensures fault { result.status ≡ 3 → Rose (F.read_faults files.old) (F.read_faults files.new)
-        ⊎ Rose (F.write_faults files.old) (F.write_faults files.new)
-        ⊎ Rose (O.faults out.old) (O.faults out.new) }
-
-    // Any other status but want of memory is a function of words and files.
     ensures decided { IsTrue F.tells → is_decided result.status ≡ true
-        → IsDecided (prepared (words_of words.now) (F.told files.old).content) result.status result.line }
-
-    // The choices are legal, and out and the trace are the fronts of their texts for them.
-    ensures explained { IsTrue F.tells → (cut : Cut)
-        × IsExplained (prepared (words_of words.now) (F.told files.old).content) result.status result.choices cut
-        × (IsTrue O.tells → AppendsPrefix (O.held out.old) (O.held out.new)
-        (out_of (prepared (words_of words.now) (F.told files.old).content) cut result.choices))
-        × IfSome (trace_name (names_in (words_of words.now))) (IsTracedUpTo (F.told files.old) (F.told files.new)
-        (trace_of (prepared (words_of words.now) (F.told files.old).content) cut result.choices)) }
-
-    // However the run ends, out has some phases whole, and the trace has nothing of those behind them.
-    ensures ordered { IsTrue F.tells → IsTrue O.tells → (ended : ℕ)
-        × AppendsWhole (O.held out.old) (O.held out.new)
-        (out_of (prepared (words_of words.now) (F.told files.old).content) Whole (take ended result.choices))
-        × IfSome (trace_name (names_in (words_of words.now))) (IsTracedUpTo (F.told files.old) (F.told files.new)
-        (trace_of (prepared (words_of words.now) (F.told files.old).content) Whole (take ended result.choices))) }
-
-    // Out is whole and flushed where the script ran to its end, and so is the trace. Out is whole with a decided status.
+        → IsDecided (script_by words.now (F.told files.old)) result.status result.line }
+    // A fault comes only where the files or out failed in this call, and before the first line only where a read did.
+    ensures fault { result.status ≡ 3 → Rises F.read_faults files.old files.new
+        ⊎ Rises F.write_faults files.old files.new ⊎ Rises O.faults out.old out.new }
+    ensures early_fault { IsTrue F.tells → is_err (script_by words.now (F.told files.old)) ≡ true → result.status ≡ 3
+        → Rises F.read_faults files.old files.new }
+    // The choices are legal, and out and the trace are the fronts of their texts for them, each phase first in out.
+    ensures explained { IsTrue F.tells → let script = script_by words.now (F.told files.old) in (cut : Cut)
+        × IsExplained script result.status result.choices cut
+        × (IsTrue O.tells → AppendsPrefix (O.held out.old) (O.held out.new) (out_of script cut result.choices))
+        × IfSome (trace_name (names_by words.now))
+        (IsTracedUpTo (F.told files.old) (F.told files.new) (trace_of script cut result.choices)) }
+    ensures ordered { IsTrue F.tells → IsTrue O.tells → let script = script_by words.now (F.told files.old) in
+        IsOrdered true (interfaces_of script) (phases_of script Whole) result.choices (O.held out.old) (O.held out.new)
+        (λ text. IfSome (trace_name (names_by words.now)) (IsTracedUpTo (F.told files.old) (F.told files.new) text)) }
+    // Out and the trace are whole where the script ran to its end, and flushed; out is flushed also where it didn't.
     ensures whole { IsTrue F.tells → IsTrue O.tells → is_whole result.status ≡ true → O.held out.new
-        ≡ O.held out.old ++ out_of (prepared (words_of words.now) (F.told files.old).content) Whole result.choices }
-    ensures flushed { IsTrue O.tells → is_end result.status ≡ true → O.flushed out.new ≡ length (O.held out.new) }
-    ensures settled { IsTrue O.tells → is_decided result.status ≡ true
-        → (O.flushed out.new ≡ length (O.held out.new)) ⊎ Rose (O.faults out.old) (O.faults out.new) }
-    ensures traced { IsTrue F.tells → is_end result.status ≡ true → IfSome (trace_name (names_in (words_of words.now)))
-        (IsTraced (F.told files.new) (trace_of (prepared (words_of words.now) (F.told files.old).content) Whole result.choices)) }
+        ≡ O.held out.old ++ out_of (script_by words.now (F.told files.old)) Whole result.choices }
     ensures limit { IsTrue F.tells → IsTrue O.tells → result.status ≡ 5
-        → AppendsUnless (Rose (F.write_faults files.old) (F.write_faults files.new) ⊎ Rose (O.faults out.old) (O.faults out.new))
-        (O.held out.old) (O.held out.new)
-        (out_of (prepared (words_of words.now) (F.told files.old).content) Whole result.choices) }
-
-    // Err has its text whole, or its front where err failed.
-    ensures err_told { IsTrue E.tells → (is_decided result.status ≡ true → IsTrue F.tells)
-        → AppendsUnless (Rose (E.faults err.old) (E.faults err.new)) (E.held err.old) (E.held err.new)
-        (said (prepared (words_of words.now) (F.told files.old).content) result.status) }
-
-    // Only the script's file is asked for, only the trace's file is made or changed, and no file stays open.
-    ensures touched { IsTrue F.tells → Touches (F.told files.old) (F.told files.new)
-        (asked_names (names_in (words_of words.now))) (made_name (names_in (words_of words.now)) result.status) }
+        → AppendsUnless (Rises F.write_faults files.old files.new ⊎ Rises O.faults out.old out.new) (O.held out.old)
+        (O.held out.new) (out_of (script_by words.now (F.told files.old)) Whole result.choices) }
+    ensures flushed { IsTrue O.tells → is_end result.status ≡ true → O.flushed out.new ≡ length (O.held out.new) }
+    ensures settled { IsTrue O.tells → IsSettled O.held O.flushed O.faults out.old out.new }
+    ensures traced { IsTrue F.tells → is_end result.status ≡ true → IfSome (trace_name (names_by words.now))
+        (IsTraced (F.told files.new) (trace_of (script_by words.now (F.told files.old)) Whole result.choices)) }
+    // Nothing is made or printed before the script was read to its end, nor printed before the trace has its first line.
+    ensures read_first { IsTrue F.tells
+        → IsReadWhole F.told F.read_faults files.old files.new (script_name (names_by words.now))
+        ⊎ (IsUnbegun O.tells (O.held out.old) (O.held out.new) result.choices × IsUnmade (F.told files.old) (F.told files.new)) }
+    ensures begun { IsTrue F.tells → IfSome (trace_name (names_by words.now)) (λ name. HasBegun (F.told files.old)
+        (F.told files.new) name ⊎ IsUnbegun O.tells (O.held out.old) (O.held out.new) result.choices) }
+    // Only the script's file is asked for, the trace's file is made once and no other one changed, and none stays open.
+    ensures touched { IsTrue F.tells → Touches (F.told files.old) (F.told files.new) (asked_names (names_by words.now))
+        (made_name (names_by words.now) (script_by words.now (F.told files.old))) }
     ensures same_handles { F.handles files.new ≡ F.handles files.old }
-
-    // What out and err are stays.
+    // Err has its text whole, or its front where err failed. What out and err are stays.
+    ensures err_told { IsTrue E.tells → (is_decided result.status ≡ true → IsTrue F.tells)
+        → AppendsUnless (Rises E.faults err.old err.new) (E.held err.old) (E.held err.new)
+        (said (script_by words.now (F.told files.old)) result.status) }
     ensures same_out { O.setting out.new ≡ O.setting out.old }
     ensures same_err { E.setting err.new ≡ E.setting err.old }
 {
     let mut choices = Choices::new(alloc);
     let ending = run(alloc, words, files, out, &mut choices);
-    flush_early(out, ending);
-    let ending = tell(alloc, err, ending);
+    ended_so(tell(alloc, err, ending), choices)
+}
+
+/// A run that ended so, with these choices.
+fn ended_so(ending: Ending, choices: Choices) -> Ended
+    ensures status { result.status ≡ status_of ending }
+    ensures line { result.line ≡ line_of ending }
+    ensures choices { result.choices ≡ choices }
+{
     Ended {
         status: ending.status(),
         line: ending.line(),
         choices,
-    }
-}
-
-/// Flushes out where the run ended before the first line. How it ends stays the same where the flush fails.
-fn flush_early<O: Sink>(out: &mut O, ending: Ending)
-    ensures same { IsTrue O.tells → O.held out.new ≡ O.held out.old }
-    ensures flushed { IsTrue O.tells → is_decided (status_of ending) ≡ true → is_end (status_of ending) ≡ false
-        → (O.flushed out.new ≡ length (O.held out.new)) ⊎ Rose (O.faults out.old) (O.faults out.new) }
-    ensures kept { IsTrue O.tells → is_end (status_of ending) ≡ true → O.flushed out.new ≡ O.flushed out.old }
-    ensures later { O.faults out.old ≤ O.faults out.new }
-    ensures same_setting { O.setting out.new ≡ O.setting out.old }
-{
-    if matches!(
-        ending,
-        Ending::Usage | Ending::BadScript { .. } | Ending::Limit(_)
-    ) {
-        let _ = out.flush();
     }
 }
 
@@ -127,42 +106,46 @@ fn run<F: Files, O: Sink>(
     choices: &mut Choices,
 ) -> Ending
     requires none { choices.old ≡ [] }
-    ensures fault { result ≡ Ending.Fault → Rose (F.read_faults files.old) (F.read_faults files.new)
-        ⊎ Rose (F.write_faults files.old) (F.write_faults files.new)
-        ⊎ Rose (O.faults out.old) (O.faults out.new) }
     ensures decided { IsTrue F.tells → is_decided (status_of result) ≡ true
-        → result ≡ ending_after (prepared (words_of words.now) (F.told files.old).content) }
+        → result ≡ ending_after (script_by words.now (F.told files.old)) }
+    ensures fault { result ≡ Ending.Fault → Rises F.read_faults files.old files.new
+        ⊎ Rises F.write_faults files.old files.new ⊎ Rises O.faults out.old out.new }
+    ensures early_fault { IsTrue F.tells → is_err (script_by words.now (F.told files.old)) ≡ true → result ≡ Ending.Fault
+        → Rises F.read_faults files.old files.new }
     ensures explained { IsTrue F.tells
-        → IsExplained (prepared (words_of words.now) (F.told files.old).content) (status_of result) choices.new Whole }
-    ensures out_front { IsTrue F.tells → IsTrue O.tells → AppendsPrefix (O.held out.old) (O.held out.new)
-        (out_of (prepared (words_of words.now) (F.told files.old).content) Whole choices.new) }
-    ensures out_whole { IsTrue F.tells → IsTrue O.tells → is_decided (status_of result) ≡ true → O.held out.new
-        ≡ O.held out.old ++ out_of (prepared (words_of words.now) (F.told files.old).content) Whole choices.new }
+        → IsExplained (script_by words.now (F.told files.old)) (status_of result) choices.new Whole }
+    ensures out { IsTrue F.tells → IsTrue O.tells → LeavesOut O.held out.old out.new
+        (out_of (script_by words.now (F.told files.old)) Whole choices.new) (status_of result) }
     ensures flushed { IsTrue O.tells → is_end (status_of result) ≡ true → O.flushed out.new ≡ length (O.held out.new) }
-    ensures trace_front { IsTrue F.tells → IfSome (trace_name (names_in (words_of words.now)))
-        (IsTracedUpTo (F.told files.old) (F.told files.new)
-        (trace_of (prepared (words_of words.now) (F.told files.old).content) Whole choices.new)) }
-    ensures trace_whole { IsTrue F.tells → is_end (status_of result) ≡ true
-        → IfSome (trace_name (names_in (words_of words.now))) (IsTraced (F.told files.new)
-        (trace_of (prepared (words_of words.now) (F.told files.old).content) Whole choices.new)) }
-    ensures ordered { IsTrue F.tells → IsTrue O.tells → (ended : ℕ)
-        × AppendsWhole (O.held out.old) (O.held out.new)
-        (out_of (prepared (words_of words.now) (F.told files.old).content) Whole (take ended choices.new))
-        × IfSome (trace_name (names_in (words_of words.now))) (IsTracedUpTo (F.told files.old) (F.told files.new)
-        (trace_of (prepared (words_of words.now) (F.told files.old).content) Whole (take ended choices.new))) }
-    ensures touched { IsTrue F.tells → Touches (F.told files.old) (F.told files.new)
-        (asked_names (names_in (words_of words.now))) (made_name (names_in (words_of words.now)) (status_of result)) }
+    ensures settled { IsTrue O.tells → IsSettled O.held O.flushed O.faults out.old out.new }
+    ensures trace { IsTrue F.tells → IfSome (trace_name (names_by words.now)) (LeavesTrace (F.told files.old)
+        (F.told files.new) (trace_of (script_by words.now (F.told files.old)) Whole choices.new) (status_of result)) }
+    ensures ordered { IsTrue F.tells → IsTrue O.tells → let script = script_by words.now (F.told files.old) in
+        IsOrdered true (interfaces_of script) (phases_of script Whole) choices.new (O.held out.old) (O.held out.new)
+        (λ text. IfSome (trace_name (names_by words.now)) (IsTracedUpTo (F.told files.old) (F.told files.new) text)) }
+    ensures read_first { IsTrue F.tells
+        → IsReadWhole F.told F.read_faults files.old files.new (script_name (names_by words.now))
+        ⊎ (IsUnbegun O.tells (O.held out.old) (O.held out.new) choices.new × IsUnmade (F.told files.old) (F.told files.new)) }
+    ensures begun { IsTrue F.tells → IfSome (trace_name (names_by words.now)) (λ name. HasBegun (F.told files.old)
+        (F.told files.new) name ⊎ IsUnbegun O.tells (O.held out.old) (O.held out.new) choices.new) }
+    ensures touched { IsTrue F.tells → Touches (F.told files.old) (F.told files.new) (asked_names (names_by words.now))
+        (made_name (names_by words.now) (script_by words.now (F.told files.old))) }
     ensures same_handles { F.handles files.new ≡ F.handles files.old }
-    ensures out_later { O.faults out.old ≤ O.faults out.new }
-    ensures same_out { O.setting out.new ≡ O.setting out.old }
+    ensures same_out { KeepsSink O.faults O.setting out.old out.new }
 {
     let named = match names_in(words) {
         Ok(named) => named,
-        Err(ending) => return ending,
+        Err(ending) => {
+            flush_early(out);
+            return ending;
+        }
     };
     let script = match prepare(alloc, files, named.script) {
         Ok(script) => script,
-        Err(ending) => return ending,
+        Err(ending) => {
+            flush_early(out);
+            return ending;
+        }
     };
     ending_of(work(alloc, &script, named.trace, files, out, choices))
 }
@@ -178,30 +161,22 @@ fn work<F: Files, O: Sink>(
 ) -> Result<bool, Stop>
     requires none { choices.old ≡ [] }
     requires script { IsRunnable script.now }
-    ensures legal { AreLegal (plan_of (works_of (plan script.now))) choices.new }
-    ensures covered { OnOk result (length choices.new ≡ length (plan script.now)) }
-    ensures refused { IfOk result (λ refused. refused ≡ has_refusal (plan script.now)) }
-    ensures out_front { IsTrue O.tells → AppendsPrefix (O.held out.old) (O.held out.new)
-        (out_for script.now.interfaces (plan script.now) choices.new) }
-    ensures out_whole { IsTrue O.tells → OnOk result (O.held out.new
-        ≡ O.held out.old ++ out_for script.now.interfaces (plan script.now) choices.new) }
-    ensures out_flushed { IsTrue O.tells → OnOk result (O.flushed out.new ≡ length (O.held out.new)) }
-    ensures trace_front { IsTrue F.tells → IfSome (name_of trace.entry) (IsTracedUpTo (F.told files.old) (F.told files.new)
-        (trace_for true script.now.interfaces (plan script.now) choices.new)) }
-    ensures trace_whole { IsTrue F.tells → OnOk result (IfSome (name_of trace.entry) (IsTraced (F.told files.new)
-        (trace_for true script.now.interfaces (plan script.now) choices.new))) }
-    ensures ordered { IsTrue F.tells → IsTrue O.tells → (ended : ℕ)
-        × AppendsWhole (O.held out.old) (O.held out.new)
-        (out_for script.now.interfaces (plan script.now) (take ended choices.new))
-        × IfSome (name_of trace.entry) (IsTracedUpTo (F.told files.old) (F.told files.new)
-        (trace_for true script.now.interfaces (plan script.now) (take ended choices.new))) }
-    ensures touched { IsTrue F.tells → Touches (F.told files.old) (F.told files.new) [] (name_of trace.entry) }
+    ensures performed { Performs (plan script.now) choices.new result }
+    ensures out { IsTrue O.tells → FillsSink O.held O.flushed out.old out.new
+        (out_for script.now.interfaces (plan script.now) choices.new) result }
+    ensures settled { IsTrue O.tells → IsSettled O.held O.flushed O.faults out.old out.new }
+    ensures trace { IsTrue F.tells → IfSome (name_of trace.entry) (FillsFile (F.told files.old) (F.told files.new)
+        (trace_for true script.now.interfaces (plan script.now) choices.new) result) }
+    ensures begun { IsTrue F.tells → IfSome (name_of trace.entry) (λ name. HasBegun (F.told files.old) (F.told files.new) name
+        ⊎ IsUnbegun O.tells (O.held out.old) (O.held out.new) choices.new) }
+    ensures ordered { IsTrue F.tells → IsTrue O.tells → IsOrdered true script.now.interfaces (plan script.now) choices.new
+        (O.held out.old) (O.held out.new)
+        (λ text. IfSome (name_of trace.entry) (IsTracedUpTo (F.told files.old) (F.told files.new) text)) }
+    ensures makes { IsTrue F.tells → Makes (F.told files.old) (F.told files.new) (name_of trace.entry) }
     ensures same_handles { F.handles files.new ≡ F.handles files.old }
-    ensures fault { result ≡ Err Stop.Fault
-        → Rose (O.faults out.old) (O.faults out.new) ⊎ Rose (F.write_faults files.old) (F.write_faults files.new) }
+    ensures fault { result ≡ Err Stop.Fault → Rises O.faults out.old out.new ⊎ Rises F.write_faults files.old files.new }
     ensures same_read_faults { F.read_faults files.new ≡ F.read_faults files.old }
-    ensures out_later { O.faults out.old ≤ O.faults out.new }
-    ensures same_out { O.setting out.new ≡ O.setting out.old }
+    ensures same_out { KeepsSink O.faults O.setting out.old out.new }
 {
     match trace {
         Some(name) => perform_into(alloc, script, files, name, out, choices),

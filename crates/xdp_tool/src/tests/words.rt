@@ -1,4 +1,4 @@
-use super::{Outside, STEADY, run};
+use super::{STEADY, run};
 use std::test::Fail;
 
 const SCRIPT: &str = "interface eth0 1
@@ -40,25 +40,6 @@ fn takes_words(rt: HostRuntime) -> Result<(), Fail> {
     for (words, status, out, err, trace) in WORDS {
         let run = run(rt.alloc(), words, SCRIPT, STEADY)?;
         assert!(rt; run.ended_so(status, 0) && run.said(out, err) && run.traced(trace));
-    }
-    Ok(())
-}
-
-/// The first write of out fails, and then its flush; and the trace has room for its first line alone.
-#[test]
-fn meets_faults(rt: HostRuntime) -> Result<(), Fail> {
-    let begun = "xdptrace 1\n";
-    let rows: [(&[u32], u32, &str, &str); 3] = [
-        (&[1], 1000, "", begun),
-        (&[2], 1000, OUT, TRACE),
-        (&[], 11, OUT, begun),
-    ];
-    for (failing, room, out, trace) in rows {
-        let outside = Outside { failing, room };
-        let run = run(rt.alloc(), &["--trace", "t", "s"], SCRIPT, outside)?;
-        assert!(rt;
-            run.ended_so(3, 0) && run.said(out, "xdptool: fault\n") && run.traced(Some(trace))
-        );
     }
     Ok(())
 }

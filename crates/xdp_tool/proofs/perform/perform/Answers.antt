@@ -1,65 +1,40 @@
-use Rattle.std.proofs.Common.{refl, ◌∙◌}
-use Rattle.xio.proofs.PrefixLemmas.{prefix_more, prefix_of_front}
+use Rattle.std.proofs.Common.{refl}
 use Rattle.xdp_tool.specs.Plan.{plan}
-use Rattle.xdp_tool.proofs.Ordering.{begun-ordered, settled-ordered, unbegun-ordered}
-use Rattle.xdp_tool.proofs.Running.{prefix-whole, trace-joined, trace-split}
+use Rattle.xdp_tool.proofs.Filling.{fills-ended, fills-stopped, performs-stopped}
 use Rattle.xdp_tool.proofs.perform.perform.Goals as goal
 
-pub returns-in_err-start_trace-clause-trace_front : goal.returns-in_err-start_trace-clause-trace_front
-returns-in_err-start_trace-clause-trace_front g c = λ tells.
-    rw (trace-split c.args.traced c.args.script.now.interfaces (plan c.args.script.now) c.args.choices.now)
-    (prefix_of_front _ _ _ _ (c.in_err-start_trace.ensures.text tells))
+pub returns-in_err-refused-clause-out : goal.returns-in_err-refused-clause-out
+returns-in_err-refused-clause-out g c = λ tells.
+    fills-stopped g.O.Sink.held g.O.Sink.flushed c.args.out.now c.work_traced-worked.new.out c.settle-settled.new.sink _ c.work_traced-worked.result c.from_residual.result c.from_residual.ensures.0 (c.work_traced-worked.ensures.out tells) (c.settle-settled.ensures.same tells)
 
-pub returns-in_err-refused-clause-trace_front : goal.returns-in_err-refused-clause-trace_front
-returns-in_err-refused-clause-trace_front g c = λ tells.
-    rw (trace-split c.args.traced c.args.script.now.interfaces (plan c.args.script.now) c.work.new.choices)
-    (prefix_more _ _ _ _ (rw (c.in_ok-start_trace.ensures.text tells) at (c.in_err-refused.ensures.trace tells)))
+pub returns-in_err-refused-clause-trace : goal.returns-in_err-refused-clause-trace
+returns-in_err-refused-clause-trace g c = λ tells.
+    fills-stopped g.T.Sink.held g.T.Sink.flushed c.args.trace.now c.work_traced-worked.new.trace c.work_traced-worked.new.trace _ c.work_traced-worked.result c.from_residual.result c.from_residual.ensures.0 (c.work_traced-worked.ensures.trace tells) refl
 
-pub returns-in_err-settle-clause-out_front : goal.returns-in_err-settle-clause-out_front
-returns-in_err-settle-clause-out_front g c = λ tells.
-    prefix-whole _ _ _ (c.settle.ensures.same tells ∙ c.in_ok-refused.ensures.out tells)
+pub returns-in_err-refused-clause-performed : goal.returns-in_err-refused-clause-performed
+returns-in_err-refused-clause-performed g c =
+    performs-stopped (plan c.args.script.now) c.work_traced-worked.new.choices c.work_traced-worked.result c.from_residual.result c.from_residual.ensures.0 c.work_traced-worked.ensures.performed
 
-pub returns-in_err-settle-clause-trace_front : goal.returns-in_err-settle-clause-trace_front
-returns-in_err-settle-clause-trace_front g c = λ tells.
-    prefix-whole _ _ _ (trace-joined c.args.traced c.args.script.now.interfaces (plan c.args.script.now) c.work.new.choices _ _ _ (c.in_ok-start_trace.ensures.text tells) (c.in_ok-refused.ensures.trace tells))
+pub returns-in_err-settled-clause-out : goal.returns-in_err-settled-clause-out
+returns-in_err-settled-clause-out g c = λ tells.
+    fills-stopped g.O.Sink.held g.O.Sink.flushed c.args.out.now c.work_traced-worked.new.out c.settle-settled.new.sink _ c.work_traced-worked.result c.from_residual-in_err-settled.result c.from_residual-in_err-settled.ensures.0 (c.work_traced-worked.ensures.out tells) (c.settle-settled.ensures.same tells)
 
-pub returns-in_err-settle-2-clause-out_front : goal.returns-in_err-settle-2-clause-out_front
-returns-in_err-settle-2-clause-out_front g c = λ tells.
-    prefix-whole _ _ _ (c.settle.ensures.same tells ∙ c.in_ok-refused.ensures.out tells)
+pub returns-in_err-settled-clause-trace : goal.returns-in_err-settled-clause-trace
+returns-in_err-settled-clause-trace g c = λ tells.
+    fills-stopped g.T.Sink.held g.T.Sink.flushed c.args.trace.now c.work_traced-worked.new.trace c.work_traced-worked.new.trace _ c.work_traced-worked.result c.from_residual-in_err-settled.result c.from_residual-in_err-settled.ensures.0 (c.work_traced-worked.ensures.trace tells) refl
 
-pub returns-in_err-settle-2-clause-trace_front : goal.returns-in_err-settle-2-clause-trace_front
-returns-in_err-settle-2-clause-trace_front g c = λ tells.
-    prefix-whole _ _ _ (c.settle-2.ensures.same tells
-    ∙ trace-joined c.args.traced c.args.script.now.interfaces (plan c.args.script.now) c.work.new.choices _ _ _ (c.in_ok-start_trace.ensures.text tells) (c.in_ok-refused.ensures.trace tells))
+pub returns-in_err-settle-clause-out : goal.returns-in_err-settle-clause-out
+returns-in_err-settle-clause-out g c = λ tells.
+    fills-stopped g.O.Sink.held g.O.Sink.flushed c.args.out.now c.work_traced-worked.new.out c.settle-settled.new.sink _ c.work_traced-worked.result c.from_residual-in_err-settle.result c.from_residual-in_err-settle.ensures.0 (c.work_traced-worked.ensures.out tells) (c.settle-settled.ensures.same tells)
 
-pub returns-clause-out_front : goal.returns-clause-out_front
-returns-clause-out_front g c = λ tells.
-    prefix-whole _ _ _ (c.settle.ensures.same tells ∙ c.in_ok-refused.ensures.out tells)
+pub returns-in_err-settle-clause-trace : goal.returns-in_err-settle-clause-trace
+returns-in_err-settle-clause-trace g c = λ tells.
+    fills-stopped g.T.Sink.held g.T.Sink.flushed c.args.trace.now c.work_traced-worked.new.trace c.settle.new.sink _ c.work_traced-worked.result c.from_residual-in_err-settle.result c.from_residual-in_err-settle.ensures.0 (c.work_traced-worked.ensures.trace tells) (c.settle.ensures.same tells)
 
-pub returns-clause-trace_front : goal.returns-clause-trace_front
-returns-clause-trace_front g c = λ tells.
-    prefix-whole _ _ _ (c.settle-2.ensures.same tells
-    ∙ trace-joined c.args.traced c.args.script.now.interfaces (plan c.args.script.now) c.work.new.choices _ _ _ (c.in_ok-start_trace.ensures.text tells) (c.in_ok-refused.ensures.trace tells))
+pub returns-clause-out : goal.returns-clause-out
+returns-clause-out g c = λ tells.
+    fills-ended g.O.Sink.held g.O.Sink.flushed c.args.out.now c.work_traced-worked.new.out c.settle-settled.new.sink _ c.in_ok-refused.refused (c.in_ok-refused.ensures.out tells) (c.settle-settled.ensures.same tells) (c.in_ok-settled.ensures.flushed tells)
 
-pub returns-in_err-start_trace-clause-ordered : goal.returns-in_err-start_trace-clause-ordered
-returns-in_err-start_trace-clause-ordered g c = λ told tells.
-    unbegun-ordered c.args.traced c.args.script.now.interfaces (plan c.args.script.now) c.args.choices.now _ _ _ (c.in_err-start_trace.ensures.text tells)
-
-pub returns-in_err-refused-clause-ordered : goal.returns-in_err-refused-clause-ordered
-returns-in_err-refused-clause-ordered g c = λ told tells.
-    begun-ordered c.args.traced c.args.script.now.interfaces (plan c.args.script.now) c.work.new.choices _ _ _ _ _ (c.in_ok-start_trace.ensures.text tells) (c.work.ensures.ordered told tells)
-
-pub returns-in_err-settle-clause-ordered : goal.returns-in_err-settle-clause-ordered
-returns-in_err-settle-clause-ordered g c = λ told tells.
-    settled-ordered c.args.traced c.args.script.now.interfaces (plan c.args.script.now) c.work.new.choices _ _ _ _ _ _ (c.settle.ensures.same told) refl
-    (begun-ordered c.args.traced c.args.script.now.interfaces (plan c.args.script.now) c.work.new.choices _ _ _ _ _ (c.in_ok-start_trace.ensures.text tells) (c.work.ensures.ordered told tells))
-
-pub returns-in_err-settle-2-clause-ordered : goal.returns-in_err-settle-2-clause-ordered
-returns-in_err-settle-2-clause-ordered g c = λ told tells.
-    settled-ordered c.args.traced c.args.script.now.interfaces (plan c.args.script.now) c.work.new.choices _ _ _ _ _ _ (c.settle.ensures.same told) (c.settle-2.ensures.same tells)
-    (begun-ordered c.args.traced c.args.script.now.interfaces (plan c.args.script.now) c.work.new.choices _ _ _ _ _ (c.in_ok-start_trace.ensures.text tells) (c.work.ensures.ordered told tells))
-
-pub returns-clause-ordered : goal.returns-clause-ordered
-returns-clause-ordered g c = λ told tells.
-    settled-ordered c.args.traced c.args.script.now.interfaces (plan c.args.script.now) c.work.new.choices _ _ _ _ _ _ (c.settle.ensures.same told) (c.settle-2.ensures.same tells)
-    (begun-ordered c.args.traced c.args.script.now.interfaces (plan c.args.script.now) c.work.new.choices _ _ _ _ _ (c.in_ok-start_trace.ensures.text tells) (c.work.ensures.ordered told tells))
+pub returns-clause-trace : goal.returns-clause-trace
+returns-clause-trace g c = λ tells.
+    fills-ended g.T.Sink.held g.T.Sink.flushed c.args.trace.now c.work_traced-worked.new.trace c.settle.new.sink _ c.in_ok-refused.refused (c.in_ok-refused.ensures.trace tells) (c.settle.ensures.same tells) (c.in_ok-settle.ensures.flushed tells)

@@ -1,29 +1,34 @@
-use Rattle.std.proofs.Common.{[], ◌∷◌, rules}
+use Rattle.std.proofs.Common.{◌∙◌, inl, inr}
+use Rattle.xdp_tool.specs.Headline.{script_by}
 use Rattle.xdp_tool.specs.Named.{name_of}
-use Rattle.xdp_tool.proofs.OneTrace.{may-make, touches-both, traced-all}
+use Rattle.xdp_tool.specs.Outcome.{Whole, interfaces_of, phases_of}
+use Rattle.xdp_tool.proofs.OneTrace.{begun-all, begun-none, leaves-none, leaves-trace, taken-still, touches-both, touches-nothing, touches-read, traced-all, traced-none, unmade-still}
 use Rattle.xdp_tool.proofs.Ordering.{none-whole}
-use Rattle.xdp_tool.specs.Headline.{words_of}
-use Rattle.xdp_tool.specs.Outcome.{Whole, interfaces_of, phases_of, prepared}
+use Rattle.xdp_tool.proofs.Telling.{decided-by, explained-by, flushed-ended, leaves-early, leaves-out}
 use Rattle.xdp_tool.proofs.tool.run.Goals as goal
 
-pub returns-clause-trace_front : goal.returns-clause-trace_front
-returns-clause-trace_front g c = λ tells.
-    rw (c.in-Ok.ensures.names, c.in-Ok-prepare.ensures.script tells)
-    (traced-all (g.F.Files.told c.args.files.now) (g.F.Files.told c.prepare.new.files) (g.F.Files.told c.work.new.files) _ (name_of c.in-Ok.named.trace) (c.in-Ok.named.script.now ∷ []) (c.prepare.ensures.touched tells) (c.work.ensures.trace_front tells))
+pub returns-clause-decided : goal.returns-clause-decided
+returns-clause-decided g c = λ tells.
+    rw (c.in-Ok.ensures.names, c.in-Ok-prepare.ensures.script tells, c.ending_of.ensures)
+    (decided-by c.in-Ok-prepare.script c.work.new.choices c.work.result c.work.ensures.performed)
 
-pub returns-clause-touched : goal.returns-clause-touched
-returns-clause-touched g c = λ tells.
-    rw (c.in-Ok.ensures.names, c.ending_of.ensures, may-make)
-    (touches-both (g.F.Files.told c.args.files.now) (g.F.Files.told c.prepare.new.files) (g.F.Files.told c.work.new.files) (c.in-Ok.named.script.now ∷ []) (name_of c.in-Ok.named.trace) (c.prepare.ensures.touched tells) (c.work.ensures.touched tells))
+pub returns-clause-explained : goal.returns-clause-explained
+returns-clause-explained g c = λ tells.
+    rw (c.in-Ok.ensures.names, c.in-Ok-prepare.ensures.script tells, c.ending_of.ensures)
+    (explained-by c.in-Ok-prepare.script c.work.new.choices c.work.result c.work.ensures.performed)
 
-pub returns-in-Err-prepare-clause-ordered : goal.returns-in-Err-prepare-clause-ordered
-returns-in-Err-prepare-clause-ordered g c = λ tells told.
-    let script = prepared (words_of c.args.words.now) (g.F.Files.told c.args.files.now).content in
-    (0, none-whole (interfaces_of script) (phases_of script Whole) _, search (rules, c.in-Err-prepare.ensures.touched tells))
+pub returns-clause-out : goal.returns-clause-out
+returns-clause-out g c = λ tells told.
+    rw (c.in-Ok.ensures.names, c.in-Ok-prepare.ensures.script tells, c.ending_of.ensures)
+    (leaves-out g.O.Sink.held g.O.Sink.flushed c.args.out.now c.work.new.out _ c.work.result (c.work.ensures.out told))
 
-pub returns-clause-out_front : goal.returns-clause-out_front
-returns-clause-out_front g c = λ tells told.
-    rw (c.in-Ok.ensures.names, c.in-Ok-prepare.ensures.script tells) (c.work.ensures.out_front told)
+pub returns-clause-flushed : goal.returns-clause-flushed
+returns-clause-flushed g c = λ told. rw c.ending_of.ensures (flushed-ended c.work.result (c.work.ensures.out told).all_flushed)
+
+pub returns-clause-trace : goal.returns-clause-trace
+returns-clause-trace g c = λ tells.
+    rw (c.in-Ok.ensures.names, c.in-Ok-prepare.ensures.script tells, c.ending_of.ensures)
+    (leaves-trace (g.F.Files.told c.args.files.now) (g.F.Files.told c.prepare.new.files) (g.F.Files.told c.work.new.files) _ c.work.result (name_of c.in-Ok.named.trace) (c.prepare.ensures.reads tells).unmade (c.work.ensures.trace tells))
 
 pub returns-clause-ordered : goal.returns-clause-ordered
 returns-clause-ordered g c = λ tells told.
@@ -31,5 +36,61 @@ returns-clause-ordered g c = λ tells told.
     (let ordered = c.work.ensures.ordered tells told in (
       ordered.0,
       ordered.1,
-      traced-all (g.F.Files.told c.args.files.now) (g.F.Files.told c.prepare.new.files) (g.F.Files.told c.work.new.files) _ (name_of c.in-Ok.named.trace) (c.in-Ok.named.script.now ∷ []) (c.prepare.ensures.touched tells) ordered.2,
+      traced-all (g.F.Files.told c.args.files.now) (g.F.Files.told c.prepare.new.files) (g.F.Files.told c.work.new.files) _ (name_of c.in-Ok.named.trace) (c.prepare.ensures.reads tells).unmade ordered.2,
     ))
+
+pub returns-clause-read_first : goal.returns-clause-read_first
+returns-clause-read_first g c = λ tells.
+    rw c.in-Ok.ensures.names
+    (inl (record {
+      taken = taken-still (g.F.Files.told c.args.files.now) (g.F.Files.told c.prepare.new.files) (g.F.Files.told c.work.new.files) c.in-Ok.named.script.now (name_of c.in-Ok.named.trace) (c.in-Ok-prepare.ensures.reads tells).whole (c.work.ensures.makes tells);
+      no_fault = c.work.ensures.same_read_faults ∙ c.in-Ok-prepare.ensures.same_read_faults;
+    }))
+
+pub returns-clause-begun : goal.returns-clause-begun
+returns-clause-begun g c = λ tells.
+    rw c.in-Ok.ensures.names
+    (begun-all _ (g.F.Files.told c.args.files.now) (g.F.Files.told c.prepare.new.files) (g.F.Files.told c.work.new.files) (name_of c.in-Ok.named.trace) (c.prepare.ensures.reads tells).unmade (c.work.ensures.begun tells))
+
+pub returns-clause-touched : goal.returns-clause-touched
+returns-clause-touched g c = λ tells.
+    rw (c.in-Ok.ensures.names, c.in-Ok-prepare.ensures.script tells)
+    (touches-both (g.F.Files.told c.args.files.now) (g.F.Files.told c.prepare.new.files) (g.F.Files.told c.work.new.files) c.in-Ok.named.script.now c.prepare.result (name_of c.in-Ok.named.trace) (c.prepare.ensures.reads tells) (c.work.ensures.makes tells))
+
+pub returns-in-Err-prepare-clause-ordered : goal.returns-in-Err-prepare-clause-ordered
+returns-in-Err-prepare-clause-ordered g c = λ tells told.
+    let script = script_by c.args.words.now (g.F.Files.told c.args.files.now) in
+    (0, rw (c.flush_early-in-Err-prepare.ensures.same_held told) (none-whole (interfaces_of script) (phases_of script Whole) _), traced-none _ _ _ _ (c.prepare.ensures.reads tells).unmade)
+
+pub returns-in-Err-prepare-clause-out : goal.returns-in-Err-prepare-clause-out
+returns-in-Err-prepare-clause-out g c = λ tells told.
+    leaves-early g.O.Sink.held c.args.out.now c.flush_early-in-Err-prepare.new.out (script_by c.args.words.now (g.F.Files.told c.args.files.now)) c.in-Err-prepare.ending c.args.choices.now (rw c.in-Ok.ensures.names (c.in-Err-prepare.ensures.script tells)) c.in-Err-prepare.ensures.failed (c.flush_early-in-Err-prepare.ensures.same_held told)
+
+pub returns-in-Err-prepare-clause-trace : goal.returns-in-Err-prepare-clause-trace
+returns-in-Err-prepare-clause-trace g c = λ tells.
+    leaves-none _ _ _ _ _ c.in-Err-prepare.ensures.failed (c.prepare.ensures.reads tells).unmade
+
+pub returns-in-Err-prepare-clause-read_first : goal.returns-in-Err-prepare-clause-read_first
+returns-in-Err-prepare-clause-read_first g c = λ tells.
+    inr ((c.requires.none, c.flush_early-in-Err-prepare.ensures.same_held), (c.prepare.ensures.reads tells).unmade)
+
+pub returns-in-Err-prepare-clause-begun : goal.returns-in-Err-prepare-clause-begun
+returns-in-Err-prepare-clause-begun g c = λ tells. begun-none _ _ _ _ (c.requires.none, c.flush_early-in-Err-prepare.ensures.same_held)
+
+pub returns-in-Err-prepare-clause-touched : goal.returns-in-Err-prepare-clause-touched
+returns-in-Err-prepare-clause-touched g c = λ tells. rw c.in-Ok.ensures.names (touches-read _ _ _ c.prepare.result _ (c.prepare.ensures.reads tells))
+
+pub returns-in-Err-clause-read_first : goal.returns-in-Err-clause-read_first
+returns-in-Err-clause-read_first g c = λ tells.
+    inr ((c.requires.none, c.flush_early.ensures.same_held), unmade-still (g.F.Files.told c.args.files.now))
+
+pub returns-in-Err-clause-begun : goal.returns-in-Err-clause-begun
+returns-in-Err-clause-begun g c = λ tells. begun-none _ _ _ _ (c.requires.none, c.flush_early.ensures.same_held)
+
+pub returns-in-Err-clause-touched : goal.returns-in-Err-clause-touched
+returns-in-Err-clause-touched g c = λ tells. touches-nothing _ _ _
+
+pub returns-in-Err-clause-ordered : goal.returns-in-Err-clause-ordered
+returns-in-Err-clause-ordered g c = λ tells told.
+    let script = script_by c.args.words.now (g.F.Files.told c.args.files.now) in
+    (0, rw (c.flush_early.ensures.same_held told) (none-whole (interfaces_of script) (phases_of script Whole) _), traced-none (g.F.Files.told c.args.files.now) (g.F.Files.told c.args.files.now) _ _ (unmade-still (g.F.Files.told c.args.files.now)))

@@ -1,9 +1,20 @@
-use Rattle.std.proofs.Common.{length, ap, sym, ◌∙◌}
-use Rattle.xdp_tool.proofs.Ends.{by-end, rose-either}
+use Rattle.std.proofs.Common.{ap, ◌∙◌, sym}
+use Rattle.xdp_tool.specs.Headline.{is_end}
+use Rattle.xdp_tool.specs.Outcome.{Whole}
+use Rattle.xdp_tool.proofs.Telling.{explained-told, told-end, trace-front, trace-whole}
 use Rattle.xdp_tool.proofs.tool.run_tool.Goals as goal
 
-pub returns-clause-settled : goal.returns-clause-settled
-returns-clause-settled g c = λ tells decided.
-    by-end c.status.result c.tell-ending.result c.run-ending.result c.status.ensures c.tell-ending.ensures.same decided
-    (λ ended. c.flush_early.ensures.kept tells ended ∙ (c.run-ending.ensures.flushed tells ended ∙ ap length (sym (c.flush_early.ensures.same tells))))
-    (λ early at. rose-either _ _ _ c.run-ending.ensures.out_later (c.flush_early.ensures.flushed tells early at))
+pub returns-clause-explained : goal.returns-clause-explained
+returns-clause-explained g c = λ tells. (
+      Whole,
+      rw (c.ended_so.ensures.status, c.ended_so.ensures.choices) (explained-told _ _ c.tell.result c.run-ending.result c.tell.ensures.same (c.run-ending.ensures.explained tells)),
+      rw c.ended_so.ensures.choices (λ told. (c.run-ending.ensures.out tells told).front),
+      rw c.ended_so.ensures.choices (trace-front _ _ _ _ _ (c.run-ending.ensures.trace tells)),
+    )
+
+pub returns-clause-traced : goal.returns-clause-traced
+returns-clause-traced g c = λ tells ended.
+    rw c.ended_so.ensures.choices (trace-whole _ _ _ _ _ (told-end c.tell.result c.run-ending.result c.tell.ensures.same (sym (ap is_end c.ended_so.ensures.status) ∙ ended)) (c.run-ending.ensures.trace tells))
+
+pub returns-clause-ordered : goal.returns-clause-ordered
+returns-clause-ordered g c = λ tells told. rw c.ended_so.ensures.choices (c.run-ending.ensures.ordered tells told)
