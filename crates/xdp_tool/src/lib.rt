@@ -14,8 +14,6 @@ mod queue;
 mod run;
 mod shown;
 mod tell;
-#[cfg(test)]
-mod tests;
 mod texts;
 mod tool;
 mod trace_texts;

@@ -1,6 +1,6 @@
-use crate::{Ended, run_tool};
 use std::alloc::{AllocError, Global};
 use std::test::Fail;
+use xdp_tool::{Ended, run_tool};
 use xio::{MemoryFiles, MemorySink, OutOfMemory, Sink};
 
 mod faults;
