@@ -1,5 +1,5 @@
 -- What a port stands for, and what its calls change.
-use Rattle.std.specs.Prelude.{◌≡◌, ◌⊎◌, ℕ, ◌-◌, ◌^◌, ◌<◌, Bool, true, false, List, []}
+use Rattle.std.specs.Prelude.{◌≡◌, ℕ, ◌+◌, ◌-◌, ◌^◌, min, Bool, true, false, List, []}
 use mathlib.Core.List.{IsPrefix}
 use Rattle.logbook.specs.Pages.{Book as Plane}
 use Rattle.xdp_state.specs.declared.change.Change.{Change}
@@ -21,10 +21,9 @@ pub record Looked (before after : Sight) : Type 0 where
   pub told : IsPrefix before.told after.seen
   pub same : after ≡ record before { seen = after.seen; inside = true }
 
--- a look gave none: the count of misses rose, or stands at its last value
-pub record Missed (before after : Sight) : Type 0 where
-  pub rose : (before.misses < after.misses) ⊎ (after.misses ≡ 2 ^ 64 - 1)
-  pub same : after ≡ record before { misses = after.misses }
+-- a look gave none: one miss more is counted, up to the last value
+abbrev pub Missed : Sight → Sight → Type 0
+Missed before after = after ≡ record before { misses = min (before.misses + 1) (2 ^ 64 - 1) }
 
 -- the port was told of these changes, and forgot none
 pub record Learnt (changes : List Change) (before after : Sight) : Type 0 where
