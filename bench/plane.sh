@@ -20,7 +20,7 @@ echo 'plane_bench: dispatch_plane xdp_state filter_rules anyhow' >> "$copy/crate
 mkdir -p "$copy/crates/plane_bench/src"
 cp "$top/bench/plane.txt" "$copy/crates/plane_bench/src/main.rt"
 cd "$copy/crates/plane_bench"
-${RT:-rt} run > "$copy/plane.out"
+${RT:-rt} run > "$copy/plane.out" || { cat "$copy/plane.out" >&2; exit 1; }
 : > "$copy/mutex.out"
 rustc=$(command -v rustc || echo "$HOME/.cargo/bin/rustc")
 if [ -x "$rustc" ]; then
@@ -37,19 +37,20 @@ number() {
 
 # A row of the table, with what is counted and the place of its number.
 row() {
-    printf '| %-48s | %16s | %23s |\n' "$1" "$(number plane "$2" "$3" "$4")" "$(number mutex "$2" "$3" "$4")"
+    printf '| %-53s | %16s | %23s |\n' "$1" "$(number plane "$2" "$3" "$4")" "$(number mutex "$2" "$3" "$4")"
 }
 
-row_of_threads() {
+rows_of_threads() {
     for threads in 1 2 3; do
         row "$1, $threads looking" looking "$threads" "$2"
     done
 }
 
-printf '| %-48s | %16s | %23s |\n' '' 'published copies' 'a Mutex in plain Rust'
+printf '%s, %s processors\n\n' "$(date +%F)" "$(nproc)"
+printf '| %-53s | %16s | %23s |\n' '' 'published copies' 'a Mutex in plain Rust'
 printf '|---|--:|--:|\n'
-row_of_threads 'thousand looks a second while one publishes' 3
-row_of_threads 'ns for a publication' 4
+rows_of_threads 'thousand looks a second beside a publisher' 3
+rows_of_threads 'ns for a publication' 4
 for rules in 0 100 4096; do
     row "ns for a publication over $rules rules, none looking" publishing "$rules" 3
 done
