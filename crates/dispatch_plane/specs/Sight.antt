@@ -12,6 +12,8 @@ pub record Sight : Type 0 where
   -- the changes that it was told of
   pub told : List Change
   pub inside : Bool
+  -- whether it has a reader; a port without one never has a view
+  pub seated : Bool
   -- how often no view was given
   pub misses : ℕ
 
@@ -19,6 +21,7 @@ pub record Sight : Type 0 where
 pub record Looked (before after : Sight) : Type 0 where
   pub seen : IsPrefix before.seen after.seen
   pub told : IsPrefix before.told after.seen
+  pub seated : before.seated ≡ true
   pub same : after ≡ record before { seen = after.seen; inside = true }
 
 -- a look gave none: one miss more is counted, up to the last value
@@ -33,7 +36,11 @@ pub record Learnt (changes : List Change) (before after : Sight) : Type 0 where
 
 -- a port that is outside, and has seen and was told nothing
 abbrev pub fresh : Plane → Sight
-fresh plane = record { plane = plane; seen = []; told = []; inside = false; misses = 0 }
+fresh plane = record { plane = plane; seen = []; told = []; inside = false; seated = true; misses = 0 }
+
+-- a port without a reader
+abbrev pub hollow : Plane → Sight
+hollow plane = record (fresh plane) { seated = false }
 
 -- the port is of this plane, and outside
 abbrev pub Joins : Plane → Sight → Type 0
