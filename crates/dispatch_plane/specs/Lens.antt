@@ -15,6 +15,11 @@ is_inside Nowhere = false
 is_inside (Outside reader) = false
 is_inside (Inside reading) = true
 
+abbrev pub has_reader : Stand → Bool
+has_reader Nowhere = false
+has_reader (Outside reader) = true
+has_reader (Inside reading) = true
+
 -- the seat has seen what the port saw, in the port's plane
 pub record IsSeated (view : View) (last : Trace) : Type 0 where
   pub seen : IsPrefix (shown last.log) view.seen
@@ -34,12 +39,15 @@ IsOf (Inside reading) plane = (view reading.place).plane ≡ Some plane
 -- the reader went in, to a copy made for this front, which shows all that was seen and told
 pub record Found (notes : Trace) (before : Stand) (front : Trace) (after : Stand) : Type 0 where
   pub inside : is_inside after ≡ true
+  pub reader : has_reader before ≡ true
+  pub kept : has_reader after ≡ true
   pub stands : Stands after front
   pub seen : (last : Trace) → Stands before last → IsPrefix (shown last.log) (shown front.log)
   pub told : IsPrefix (committed notes.log) (shown front.log)
   pub plane : front.plane ≡ notes.plane
 
--- the reader stands outside, whatever was seen
+-- the reader, where there is one, stands outside, whatever was seen
 pub record Stays (before after : Stand) : Type 0 where
   pub outside : is_inside after ≡ false
+  pub reader : has_reader after ≡ has_reader before
   pub stands : (last : Trace) → Stands before last → Stands after last

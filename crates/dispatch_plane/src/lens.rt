@@ -78,9 +78,14 @@ impl Model for Lens {
 
     ghost Value = { Glance };
 
-    ghost use Rattle.dispatch_plane.specs.Lens.{Stands, is_inside};
+    ghost use Rattle.dispatch_plane.specs.Lens.{Stands, has_reader, is_inside};
 
-    ghost view = { λ lens. record { seen = lens.seen; inside = is_inside lens.stand; misses = lens.misses } };
+    ghost view = { λ lens. record {
+      seen = lens.seen;
+      inside = is_inside lens.stand;
+      seated = has_reader lens.stand;
+      misses = lens.misses;
+    } };
 
     ghost invariant = { λ lens. Stands lens.stand lens.seen };
 }
@@ -90,7 +95,7 @@ impl Lens {
     pub fn new(reader: PlaneReader, front: Front) -> Self
         requires seat { view reader.place ≡ record newcomer { plane = Some front.plane } }
         requires empty { shown front.log ≡ [] }
-        ensures { result ≡ record { seen = front; inside = false; misses = 0 } }
+        ensures { result ≡ record { seen = front; inside = false; seated = true; misses = 0 } }
     {
         Lens {
             stand: Stand::Outside(reader),
@@ -101,7 +106,7 @@ impl Lens {
 
     /// A lens without a reader: it never gives a view.
     pub fn hollow(front: Front) -> Self
-        ensures { result ≡ record { seen = front; inside = false; misses = 0 } }
+        ensures { result ≡ record { seen = front; inside = false; seated = false; misses = 0 } }
     {
         Lens {
             stand: Stand::Nowhere,

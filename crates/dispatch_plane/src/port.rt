@@ -3,7 +3,7 @@ ghost use Rattle.left_right.specs.Sides.{view};
 ghost use Rattle.xdp_state.specs.Book.{after};
 ghost use Rattle.dispatch_plane.specs.History.{shown};
 ghost use Rattle.dispatch_plane.specs.View.{newcomer};
-ghost use Rattle.dispatch_plane.specs.Sight.{fresh, Looked, Missed, Learnt};
+ghost use Rattle.dispatch_plane.specs.Sight.{fresh, hollow, Looked, Missed, Learnt};
 
 use crate::history::{self, Front};
 use crate::lens::{Lens, NoView, PlaneReader};
@@ -30,6 +30,7 @@ impl Model for Port {
       seen = shown port.lens.seen.log;
       told = committed port.told.log;
       inside = port.lens.inside;
+      seated = port.lens.seated;
       misses = port.lens.misses;
     } };
 
@@ -53,7 +54,7 @@ impl Port {
     /// A port without a reader, in a plane of its own: it never has a view. It may stand where a port was taken out.
     #[tactic(auto, using(crate::proofs::Histories::shown_none, crate::proofs::Histories::committed_none))]
     pub fn hollow() -> Self
-        ensures { result ≡ fresh result.plane }
+        ensures { result ≡ hollow result.plane }
     {
         let (_, told) = history::open();
         Port {

@@ -13,5 +13,5 @@ returns c =
     rw (← c.self.view_is) (record {
       kept = committed_grows c.self.inside.told.log told.log c.learn.ensures.kept;
       learnt = subst (λ (changes : List Change). IsPrefix changes (committed told.log)) c.front.ensures.changes learnt;
-      same = λ i. record { plane = c.learn.ensures.same i; seen = shown lens.seen.log; told = committed told.log; inside = lens.inside; misses = lens.misses };
+      same = λ i. record { plane = c.learn.ensures.same i; seen = shown lens.seen.log; told = committed told.log; inside = lens.inside; seated = lens.seated; misses = lens.misses };
     })
