@@ -1,1 +1,5 @@
-
+pub mod Answered
+pub mod Lanes
+pub mod LastCounts
+pub mod Numbers
+pub mod SoundSteps

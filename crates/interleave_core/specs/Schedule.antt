@@ -27,15 +27,17 @@ all_due published needs counts =
     due_steps (λ processor. step.HandIn processor) published 0 needs
     ++ due_steps (λ processor. step.Carry processor) published 0 counts
 
--- with so many publications, and some to come
-abbrev pub steps_from : ℕ → ℕ → List (List ℕ) → List (List ℕ) → List Step
-steps_from published zero needs counts = all_due published needs counts
-steps_from published (suc more) needs counts =
-    all_due published needs counts
-    ++ step.Publish ∷ steps_from (published + 1) more (all_left published needs) (all_left published counts)
+-- after what is due with so many publications, of which some are still to come
+abbrev pub steps_after : ℕ → ℕ → List (List ℕ) → List (List ℕ) → List Step
+steps_after published zero needs counts = []
+steps_after published (suc more) needs counts =
+    step.Publish ∷ (all_due (published + 1) needs counts
+    ++ steps_after (published + 1) more (all_left (published + 1) needs) (all_left (published + 1) counts))
 
 abbrev pub phase_steps : ℕ → PlanPhase → List (List ℕ) → List Step
-phase_steps first phase counts = steps_from first (phase.published - first) phase.needs counts ++ step.Barrier ∷ []
+phase_steps first phase counts =
+    all_due first phase.needs counts
+    ++ (steps_after first (phase.published - first) (all_left first phase.needs) (all_left first counts) ++ step.Barrier ∷ [])
 
 abbrev pub plan_steps : ℕ → List PlanPhase → List (List (List ℕ)) → List Step
 plan_steps first (phase ∷ phases) (counts ∷ choices) =

@@ -22,6 +22,8 @@ AreWithin published (need ∷ needs) = (need ≤ published) × AreWithin publish
 
 -- a processor whose last count in the phases before is given
 pub record IsSound (last published : ℕ) (traffic : Traffic) : Type 0 where
+  -- no count of the phases before is above the publications so far
+  pub before : last ≤ published
   -- its counts never fall, and each is at least its packet's need and at most the publications so far
   pub counts : AreLegalCounts last published (needs_of traffic.carried) traffic.counts
   -- the packets that were counted, followed by its queue, are the packets that were handed in

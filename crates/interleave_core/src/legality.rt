@@ -30,9 +30,10 @@ fn lacking(plan: &Plan, choices: &Choices) -> Option<Illegal>
 {
     let phases = plan.len().min(choices.len());
     for phase in 0..phases {
-        let found = lacking_in(phase, &plan.at(phase).needs, choices.at(phase));
-        if found.is_some() {
-            return found;
+        let asked = plan.at(phase);
+        let counts = choices.at(phase);
+        if let Some(illegal) = lacking_in(phase, &asked.needs, counts) {
+            return Some(illegal);
         }
     }
     lacking_at(phases, 0, plan.len() == choices.len())
@@ -43,9 +44,10 @@ fn lacking_in(phase: u32, needs: &NeedsList, counts: &NeedsList) -> Option<Illeg
 {
     let processors = needs.len().min(counts.len());
     for processor in 0..processors {
-        let found = lacking_packet(phase, processor, needs.at(processor), counts.at(processor));
-        if found.is_some() {
-            return found;
+        let asked = needs.at(processor);
+        let counted = counts.at(processor);
+        if let Some(illegal) = lacking_packet(phase, processor, asked, counted) {
+            return Some(illegal);
         }
     }
     lacking_at(phase, processors, needs.len() == counts.len())
@@ -90,26 +92,38 @@ fn first_broken(plan: &Plan, choices: &Choices) -> Option<Illegal>
     ensures { result ≡ illegal_from 0 [] plan.now choices.now }
 {
     for phase in 0..plan.len().min(choices.len()) {
-        let found = broken_in(phase, plan.at(phase), choices);
-        if found.is_some() {
-            return found;
+        let asked = plan.at(phase);
+        let counts = choices.at(phase);
+        if let Some(illegal) = broken_in(phase, choices, asked, counts) {
+            return Some(illegal);
         }
     }
     None
 }
 
 /// The same in one phase.
-fn broken_in(phase: u32, asked: &PlanPhase, choices: &Choices) -> Option<Illegal>
-    requires { phase < length choices.now }
-    ensures { (counts : List (List ℕ)) → slice_get choices.now phase ≡ Some counts
-        → result ≡ illegal_in phase 0 (last_counts (take phase choices.now)) asked.now.published asked.now.needs counts }
+fn broken_in(
+    phase: u32,
+    choices: &Choices,
+    asked: &PlanPhase,
+    counts: &NeedsList,
+) -> Option<Illegal>
+    requires { phase ≤ length choices.now }
+    ensures { result ≡ illegal_in phase 0 (last_counts (take phase choices.now)) asked.now.published asked.now.needs counts.now }
 {
-    let (needs, counts) = (&asked.needs, choices.at(phase));
+    let needs = &asked.needs;
     for processor in 0..needs.len().min(counts.len()) {
-        let (needs, counts) = (needs.at(processor), counts.at(processor));
-        let found = broken_on(phase, processor, choices, asked.published, needs, counts);
-        if found.is_some() {
-            return found;
+        let asked_on = needs.at(processor);
+        let counted = counts.at(processor);
+        if let Some(illegal) = broken_on(
+            phase,
+            processor,
+            choices,
+            asked.published,
+            asked_on,
+            counted,
+        ) {
+            return Some(illegal);
         }
     }
     None
@@ -133,7 +147,14 @@ fn broken_on(
         return None;
     }
     let last = last_before(choices, phase, processor);
-    broken_after(phase, processor, last, published, needs.as_slice(), counts.as_slice())
+    broken_after(
+        phase,
+        processor,
+        last,
+        published,
+        needs.as_slice(),
+        counts.as_slice(),
+    )
 }
 
 /// The last count of the processor in the phases before this one.
@@ -165,15 +186,15 @@ fn last_in(counts: &NeedsList, processor: u32) -> Option<u32>
 fn broken_after(
     phase: u32,
     processor: u32,
-    last: u32,
+    before: u32,
     published: u32,
     needs: &[u32],
     counts: &[u32],
 ) -> Option<Illegal>
     requires { length counts.now < 2 ^ 32 }
-    ensures { result ≡ illegal_on phase processor 0 last published needs.now counts.now }
+    ensures { result ≡ illegal_on phase processor 0 before published needs.now counts.now }
 {
-    let mut last = last;
+    let mut last = before;
     for place in 0..needs.len().min(counts.len()) {
         let (need, count) = (needs[place], counts[place]);
         if let Some(rule) = broken_rule(last, published, need, count) {

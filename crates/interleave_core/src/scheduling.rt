@@ -3,6 +3,7 @@ ghost use Rattle.interleave_core.specs.Legality.{first_illegal};
 ghost use Rattle.interleave_core.specs.Reached.{IsPlan, StepsGive};
 ghost use Rattle.interleave_core.specs.Schedule.{all_left, due, due_steps, phase_steps, plan_steps};
 ghost use Rattle.interleave_core.specs.declared.illegal.Illegal.{Illegal};
+ghost use Rattle.interleave_core.specs.declared.scheduling.ScheduleEnd.TheVariants.{OutOfMemory as NoMemory};
 ghost use Rattle.interleave_core.specs.declared.step.Step.TheVariants as step;
 
 use crate::illegal::Illegal;
@@ -20,9 +21,7 @@ pub enum ScheduleEnd {
 }
 
 impl From<OutOfMemory> for ScheduleEnd {
-    ghost use Rattle.interleave_core.specs.declared.scheduling.ScheduleEnd.TheVariants as end;
-
-    ghost from_gives = { λ _ end. end ≡ end.OutOfMemory };
+    ghost from_gives = { λ _ end. end ≡ NoMemory };
 
     fn from(_: OutOfMemory) -> Self {
         ScheduleEnd::OutOfMemory

@@ -2,9 +2,7 @@ use crate::{Event, Illegal, LegalRule, Step, StepEnd, World, is_legal, schedule}
 use lists::{Bytes, OutOfMemory};
 use std::alloc::Global;
 use std::test::Fail;
-use xdp_state::{
-    Choices, CountList, Interface, InterfaceList, NeedsList, Packet, Plan, PlanPhase,
-};
+use xdp_state::{Choices, CountList, Interface, InterfaceList, NeedsList, Packet, Plan, PlanPhase};
 
 /// By processor, the numbers of its packets.
 type Numbers = &'static [&'static [u32]];
@@ -30,21 +28,69 @@ const ROWS: &[Row] = &[
     (TWO_PACKETS, &[&[&[0, 1]]], None),
     (TWO_PACKETS, &[&[&[1, 1]]], None),
     (TWO_PACKETS, &[&[&[1, 0]]], Some((0, 0, 1, LegalRule::Fell))),
-    (TWO_PACKETS, &[&[&[0, 0]]], Some((0, 0, 1, LegalRule::BelowNeed))),
-    (TWO_PACKETS, &[&[&[0, 2]]], Some((0, 0, 1, LegalRule::AbovePhase))),
-    (TWO_PACKETS, &[&[&[2, 0]]], Some((0, 0, 0, LegalRule::AbovePhase))),
+    (
+        TWO_PACKETS,
+        &[&[&[0, 0]]],
+        Some((0, 0, 1, LegalRule::BelowNeed)),
+    ),
+    (
+        TWO_PACKETS,
+        &[&[&[0, 2]]],
+        Some((0, 0, 1, LegalRule::AbovePhase)),
+    ),
+    (
+        TWO_PACKETS,
+        &[&[&[2, 0]]],
+        Some((0, 0, 0, LegalRule::AbovePhase)),
+    ),
     (TWO_PACKETS, &[], Some((0, 0, 0, LegalRule::Shape))),
-    (TWO_PACKETS, &[&[&[0, 1]], &[&[]]], Some((1, 0, 0, LegalRule::Shape))),
+    (
+        TWO_PACKETS,
+        &[&[&[0, 1]], &[&[]]],
+        Some((1, 0, 0, LegalRule::Shape)),
+    ),
     (TWO_PACKETS, &[&[]], Some((0, 0, 0, LegalRule::Shape))),
-    (TWO_PACKETS, &[&[&[0, 1], &[]]], Some((0, 1, 0, LegalRule::Shape))),
+    (
+        TWO_PACKETS,
+        &[&[&[0, 1], &[]]],
+        Some((0, 1, 0, LegalRule::Shape)),
+    ),
     (TWO_PACKETS, &[&[&[9]]], Some((0, 0, 1, LegalRule::Shape))),
-    (TWO_PACKETS, &[&[&[9, 9, 9]]], Some((0, 0, 2, LegalRule::Shape))),
-    (THREE_PHASES, &[&[&[1], &[1]], &[&[1, 2], &[]], &[&[], &[3, 3]]], None),
-    (THREE_PHASES, &[&[&[0], &[1]], &[&[2, 2], &[]], &[&[], &[2, 3]]], None),
-    (THREE_PHASES, &[&[&[1], &[1]], &[&[0, 2], &[]], &[&[], &[3, 3]]], Some((1, 0, 0, LegalRule::Fell))),
-    (THREE_PHASES, &[&[&[1], &[1]], &[&[1, 3], &[]], &[&[], &[0, 3]]], Some((1, 0, 1, LegalRule::AbovePhase))),
-    (THREE_PHASES, &[&[&[1], &[1]], &[&[1, 2], &[]], &[&[], &[0, 3]]], Some((2, 1, 0, LegalRule::Fell))),
-    (THREE_PHASES, &[&[&[1], &[1]], &[&[1], &[]], &[&[]]], Some((1, 0, 1, LegalRule::Shape))),
+    (
+        TWO_PACKETS,
+        &[&[&[9, 9, 9]]],
+        Some((0, 0, 2, LegalRule::Shape)),
+    ),
+    (
+        THREE_PHASES,
+        &[&[&[1], &[1]], &[&[1, 2], &[]], &[&[], &[3, 3]]],
+        None,
+    ),
+    (
+        THREE_PHASES,
+        &[&[&[0], &[1]], &[&[2, 2], &[]], &[&[], &[2, 3]]],
+        None,
+    ),
+    (
+        THREE_PHASES,
+        &[&[&[1], &[1]], &[&[0, 2], &[]], &[&[], &[3, 3]]],
+        Some((1, 0, 0, LegalRule::Fell)),
+    ),
+    (
+        THREE_PHASES,
+        &[&[&[1], &[1]], &[&[1, 3], &[]], &[&[], &[0, 3]]],
+        Some((1, 0, 1, LegalRule::AbovePhase)),
+    ),
+    (
+        THREE_PHASES,
+        &[&[&[1], &[1]], &[&[1, 2], &[]], &[&[], &[0, 3]]],
+        Some((2, 1, 0, LegalRule::Fell)),
+    ),
+    (
+        THREE_PHASES,
+        &[&[&[1], &[1]], &[&[1], &[]], &[&[]]],
+        Some((1, 0, 1, LegalRule::Shape)),
+    ),
 ];
 
 fn list_of(alloc: Global, numbers: &[u32]) -> Result<CountList, OutOfMemory> {

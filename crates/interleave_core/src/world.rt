@@ -5,7 +5,6 @@ ghost use Rattle.interleave_core.specs.Moment.{Goes, Publishes, HandsIn, Carries
 ghost use Rattle.interleave_core.specs.Sound.{AreLegalFor, IsSoundMoment};
 ghost use Rattle.interleave_core.specs.Traffic.{Traffic, idle, waits, with_count, with_packet};
 ghost use Rattle.interleave_core.specs.declared.event.StepEnd.{StepEnd};
-ghost use Rattle.interleave_core.specs.declared.event.StepEnd.TheVariants as end;
 ghost use Rattle.xdp_state.specs.Answer.{answer, rule_fits};
 ghost use Rattle.xdp_state.specs.Book.{after, takes};
 ghost use Rattle.xdp_state.specs.Work.{needs_of};
@@ -16,8 +15,8 @@ use lists::{Bytes, OutOfMemory};
 use std::alloc::Global;
 use std::marker::Model;
 use xdp_state::{
-    Change, Command, HandIn, Interface, InterfaceList, Judgement, NeedsList, Packet, PlanPhase, State,
-    judge,
+    Change, Command, HandIn, Interface, InterfaceList, Judgement, NeedsList, Packet, PlanPhase,
+    State, judge,
 };
 
 /// A run that goes on event by event, in any order: what was published, by processor the packets that were handed in and the
@@ -65,8 +64,8 @@ impl World {
         requires interfaces { length interfaces.now ≤ 8 }
         ensures happens { OnOk result (Happens interfaces.now self.old event.now self.new) }
         ensures sound { IsSoundMoment self.new }
-        ensures refused { (end : StepEnd) → refusal self.old event.now ≡ Some end → result ≡ Err end }
-        ensures only { IfErr result (λ end. end ≢ end.OutOfMemory → refusal self.old event.now ≡ Some end) }
+        ensures refused { (stop : StepEnd) → refusal self.old event.now ≡ Some stop → result ≡ Err stop }
+        ensures only { IfErr result (λ stop. stop ≢ StepEnd.OutOfMemory → refusal self.old event.now ≡ Some stop) }
         ensures err { OnErr result (self.new ≡ self.old) }
     {
         match event {
@@ -104,7 +103,7 @@ impl World {
         requires room { length self.old.published < 65536 }
         requires interfaces { length interfaces.now ≤ 8 }
         ensures ok { OnOk result (Answers self.old (answer interfaces.now (after self.old.published) command.now) self.new) }
-        ensures only { IfErr result (λ end. end ≡ end.OutOfMemory) }
+        ensures only { IfErr result (λ stop. stop ≡ StepEnd.OutOfMemory) }
         ensures err { OnErr result (self.new ≡ self.old) }
     {
         match judge(&self.state, interfaces, command) {
@@ -116,7 +115,7 @@ impl World {
     fn publish(&mut self, change: Change) -> Result<(), StepEnd>
         requires { takes (after self.old.published) change ≡ true }
         ensures ok { OnOk result (Goes self.old (Publishes change) self.new) }
-        ensures only { IfErr result (λ end. end ≡ end.OutOfMemory) }
+        ensures only { IfErr result (λ stop. stop ≡ StepEnd.OutOfMemory) }
         ensures err { OnErr result (self.new ≡ self.old) }
     {
         self.changes.reserve(1)?;
@@ -128,7 +127,7 @@ impl World {
     fn hand_in(&mut self, processor: u32, packet: &Packet) -> Result<(), StepEnd>
         requires { processor < length self.old.processors }
         ensures ok { OnOk result (Goes self.old (HandsIn processor packet.now) self.new) }
-        ensures only { IfErr result (λ end. end ≡ end.OutOfMemory) }
+        ensures only { IfErr result (λ stop. stop ≡ StepEnd.OutOfMemory) }
         ensures err { OnErr result (self.new ≡ self.old) }
     {
         let packet = copy_of(*self.changes.allocator(), packet)?;
@@ -140,8 +139,8 @@ impl World {
     fn carry(&mut self, processor: u32) -> Result<(), StepEnd>
         requires { processor < length self.old.processors }
         ensures ok { OnOk result (Goes self.old (Carries processor) self.new) }
-        ensures refused { waits_at processor self.old.processors ≡ false → result ≡ Err (end.EmptyQueue processor) }
-        ensures only { IfErr result (λ end. end ≢ end.OutOfMemory → waits_at processor self.old.processors ≡ false) }
+        ensures refused { waits_at processor self.old.processors ≡ false → result ≡ Err (StepEnd.EmptyQueue processor) }
+        ensures only { IfErr result (λ stop. stop ≢ StepEnd.OutOfMemory → waits_at processor self.old.processors ≡ false) }
         ensures err { OnErr result (self.new ≡ self.old) }
     {
         if !waits_on(&self.lanes, processor) {
@@ -155,9 +154,9 @@ impl World {
     fn end_phase(&mut self) -> Result<(), StepEnd>
         ensures ok { OnOk result (Goes self.old EndsPhase self.new) }
         ensures refused { (processor : ℕ) → position waits self.old.processors ≡ Some processor
-            → result ≡ Err (end.QueueLeft processor) }
-        ensures only { IfErr result (λ end. end ≢ end.OutOfMemory
-            → option_map (λ processor. end.QueueLeft processor) (position waits self.old.processors) ≡ Some end) }
+            → result ≡ Err (StepEnd.QueueLeft processor) }
+        ensures only { IfErr result (λ stop. stop ≢ StepEnd.OutOfMemory
+            → option_map (λ processor. StepEnd.QueueLeft processor) (position waits self.old.processors) ≡ Some stop) }
         ensures err { OnErr result (self.new ≡ self.old) }
     {
         if let Some(processor) = first_waiting(&self.lanes) {
@@ -236,8 +235,14 @@ fn first_waiting(lanes: &[Lane]) -> Option<u32>
     requires { length lanes.now < 2 ^ 32 }
     ensures { result ≡ position waits lanes.now }
 {
-    let place = lanes.iter().position(|lane| lane.waits())?;
+    let place = place_of_waiting(lanes)?;
     Some(place as u32)
+}
+
+fn place_of_waiting(lanes: &[Lane]) -> Option<usize>
+    ensures { result ≡ position waits lanes.now }
+{
+    lanes.iter().position(|lane| lane.waits())
 }
 
 /// By processor the needs of its packets.
