@@ -1,5 +1,6 @@
 -- The traffic of one processor among all.
-use Rattle.std.proofs.Common.{◌≡◌, ℕ, ◌+◌, ◌<◌, ◌≤◌, zero, suc, Bool, true, false, List, [], ◌∷◌, ◌++◌, length, take, drop, get_or, slice_set, length-append, refl, sym, ap, ◌∙◌, arith}
+use Rattle.std.proofs.Common.{◌≡◌, ℕ, ◌+◌, ◌<◌, ◌≤◌, zero, suc, Bool, true, false, List, [], ◌∷◌, ◌++◌, length, take, drop, get_or, slice_set, Result, OnOk, length-append, refl, sym, ap, ◌∙◌, arith}
+use Rattle.interleave_core.proofs.Answered.{on_ok-then}
 use Rattle.interleave_core.specs.Moment.{changed_at, waits_at}
 use Rattle.interleave_core.specs.Traffic.{Traffic, waits, with_count}
 use Rattle.xdp_state.specs.declared.packet.HandIn.{HandIn}
@@ -37,3 +38,8 @@ counted-more hs counts more count is =
     let carried : take (length more) hs ≡ take (length counts) hs ++ take 1 (drop (length counts) hs) = ap (λ n. take n hs) many ∙ take-next (length counts) hs in
     let queue : drop (length more) hs ≡ drop 1 (drop (length counts) hs) = ap (λ n. drop n hs) many ∙ drop-next (length counts) hs in
     rw (carried, queue, is) refl
+
+-- a processor that was changed, where the change came about
+pub changed-on_ok : {T E : Type 0} (r : Result T E) (p : ℕ) (f : Traffic → Traffic) (ts : List Traffic) (t new : Traffic) → p < length ts → t ≡ get_or ts p t → OnOk r (new ≡ f t) → OnOk r (slice_set ts p new ≡ changed_at p f ts)
+changed-on_ok r p f ts t new below is changed =
+    on_ok-then r (new ≡ f t) (slice_set ts p new ≡ changed_at p f ts) (λ e. ap (λ x. slice_set ts p x) e ∙ changed_at-set p f ts t below is) changed

@@ -64,3 +64,7 @@ last_of-get last [] = refl
 last_of-get last (c ∷ counts) =
     let place : length (c ∷ counts) - 1 ≡ length counts = omega arith in
     ap (λ i. unwrap_or (slice_get (c ∷ counts) i) last) place ∙ ap (λ o. unwrap_or o last) (last-get last c counts)
+
+pub unwrap-past : (r : Option ℕ) (d : ℕ) → ((x : ℕ) → r ≡ Some x → ⊥) → unwrap_or r d ≡ d
+unwrap-past None d other = refl
+unwrap-past (Some x) d other = absurd (other x refl)

@@ -1,7 +1,7 @@
 -- Each step keeps what holds at every moment.
 use Rattle.std.proofs.Common.{◌≡◌, ℕ, ◌+◌, ◌<◌, ◌≤◌, zero, suc, Bool, true, false, ◌||◌, nat_lt, List, [], ◌∷◌, ◌++◌, length, map, replicate, fold, append_assoc, append-nil, length-append, refl, sym, ap, subst, ◌∙◌, arith, ⊎_elim, inl, inr, ◌⊎◌}
 use Rattle.std.specs.List.{list_any}
-use Rattle.std.proofs.lemmas.Bool.{ltb-true}
+use Rattle.std.proofs.lemmas.Bool.{ltb-false}
 use Rattle.std.proofs.lemmas.List.{length-replicate}
 use Rattle.std.proofs.lemmas.List.Sums.{fold-append}
 use Rattle.interleave_core.specs.Moment.{Goes, Leads, Moment, Move, Publishes, HandsIn, Carries, EndsPhase, beginning, carried_by, changed_at, handed_in, phase_ended, waits_at, with_change}
@@ -90,7 +90,7 @@ none-left false b h = record { first = refl; others = h }
 -- where nothing waits, all that was handed in was carried
 all-carried : (handed carried queue : List HandIn) → nat_lt 0 (length queue) ≡ false → carried ++ queue ≡ handed → carried ≡ handed
 all-carried handed carried [] none packets = sym (append-nil carried) ∙ packets
-all-carried handed carried (h ∷ hs) none packets = absurd cc
+all-carried handed carried (h ∷ hs) none packets = absurd (omega (arith, ltb-false 0 (length (h ∷ hs)) none))
 
 legal-ended : (lasts : List ℕ) (published : ℕ) (ts : List Traffic) → list_any waits ts ≡ false → AreSound lasts published ts → AreLegalFrom lasts published (map (λ (t : Traffic). needs_of t.handed) ts) (map (λ (t : Traffic). t.counts) ts)
 legal-ended lasts published [] none sound = tt
@@ -125,14 +125,14 @@ legal-phase lasts (p ∷ plan) [] asked counts whole legal phase = absurd (omega
 legal-phase lasts (p ∷ plan) (c ∷ choices) asked counts whole legal phase =
     (legal.0, legal-phase (lasts_of lasts c) plan choices asked counts (omega arith) legal.1 phase)
 
-sound-published : (before : Moment) (change : Change) → IsSoundMoment before → IsSoundMoment (with_change change before)
+pub sound-published : (before : Moment) (change : Change) → IsSoundMoment before → IsSoundMoment (with_change change before)
 sound-published before change sound =
     record {
       processors = sound-higher (last_counts before.choices) (length before.published) (length (before.published ++ change ∷ [])) before.processors (omega (arith, length-append before.published (change ∷ []))) sound.processors;
       ended = sound.ended;
     }
 
-sound-handed_in : (before : Moment) (p : ℕ) (packet : Handed) → IsSoundMoment before → IsSoundMoment (handed_in p packet before)
+pub sound-handed_in : (before : Moment) (p : ℕ) (packet : Handed) → IsSoundMoment before → IsSoundMoment (handed_in p packet before)
 sound-handed_in before p packet sound =
     let h : HandIn = record { packet = packet; need = length before.published } in
     record {
@@ -140,14 +140,14 @@ sound-handed_in before p packet sound =
       ended = sound.ended;
     }
 
-sound-carried_by : (before : Moment) (p : ℕ) → waits_at p before.processors ≡ true → IsSoundMoment before → IsSoundMoment (carried_by p before)
+pub sound-carried_by : (before : Moment) (p : ℕ) → waits_at p before.processors ≡ true → IsSoundMoment before → IsSoundMoment (carried_by p before)
 sound-carried_by before p there sound =
     record {
       processors = sound-carried p (last_counts before.choices) (length before.published) before.processors there sound.processors;
       ended = sound.ended;
     }
 
-sound-ended : (before : Moment) → list_any waits before.processors ≡ false → IsSoundMoment before → IsSoundMoment (phase_ended before)
+pub sound-ended : (before : Moment) → list_any waits before.processors ≡ false → IsSoundMoment before → IsSoundMoment (phase_ended before)
 sound-ended before none sound =
     let published = length before.published in
     let asked : PlanPhase = record { published = length before.published; needs = map (λ (t : Traffic). needs_of t.handed) before.processors } in

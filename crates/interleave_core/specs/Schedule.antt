@@ -1,8 +1,13 @@
 -- One list of steps among those that give a plan and choices: everything as early as its number allows.
 use Rattle.std.specs.Prelude.{ℕ, ◌+◌, ◌-◌, nat_le, zero, suc, List, [], ◌∷◌, ◌++◌, drop, map, replicate, if◌then◌else◌}
+use Rattle.std.specs.Borrow.{Bor}
 use Rattle.interleave_core.specs.declared.step.Step.{Step}
 use Rattle.interleave_core.specs.declared.step.Step.TheVariants as step
 use Rattle.xdp_state.specs.declared.plan.PlanPhase.{PlanPhase}
+
+-- lists that are lent
+abbrev pub rows : List (Bor (List ℕ)) → List (List ℕ)
+rows slices = map (λ slice. slice.now) slices
 
 -- how many numbers come before the first that is above what is published
 abbrev pub due : ℕ → List ℕ → ℕ

@@ -15,13 +15,20 @@ pub fn is_legal(plan: &Plan, choices: &Choices) -> Result<(), Illegal>
     ensures legal { IsOk result ↔ AreLegalFor plan.now choices.now }
     ensures reached { (processors : ℕ) → IsPlan processors plan.now → (IsOk result ↔ IsReached processors plan.now choices.now) }
 {
-    if let Some(illegal) = lacking(plan, choices) {
-        return Err(illegal);
-    }
-    match first_broken(plan, choices) {
+    match first_illegal(plan, choices) {
         Some(illegal) => Err(illegal),
         None => Ok(()),
     }
+}
+
+/// The first place that one of the two lacks, or else the first packet that breaks a rule.
+fn first_illegal(plan: &Plan, choices: &Choices) -> Option<Illegal>
+    ensures { result ≡ first_illegal plan.now choices.now }
+{
+    if let Some(illegal) = lacking(plan, choices) {
+        return Some(illegal);
+    }
+    first_broken(plan, choices)
 }
 
 /// The first place that the plan or the choices lack.

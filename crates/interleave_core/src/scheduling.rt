@@ -1,7 +1,7 @@
-ghost use Rattle.std.specs.Prelude.{◌≡◌, ℕ, ◌^◌, ◌<◌, ◌++◌, None, Some, length, map, drop, replicate, vec_len, IfOk, OnOk};
+ghost use Rattle.std.specs.Prelude.{◌≡◌, ℕ, ◌^◌, ◌<◌, ◌++◌, ◌∷◌, None, Some, length, drop, replicate, vec_len, IfOk, OnOk};
 ghost use Rattle.interleave_core.specs.Legality.{first_illegal};
 ghost use Rattle.interleave_core.specs.Reached.{IsPlan, StepsGive};
-ghost use Rattle.interleave_core.specs.Schedule.{all_left, due, due_steps, phase_steps, plan_steps};
+ghost use Rattle.interleave_core.specs.Schedule.{all_due, all_left, due, due_steps, phase_steps, plan_steps, rows};
 ghost use Rattle.interleave_core.specs.declared.illegal.Illegal.{Illegal};
 ghost use Rattle.interleave_core.specs.declared.scheduling.ScheduleEnd.TheVariants.{OutOfMemory as NoMemory};
 ghost use Rattle.interleave_core.specs.declared.step.Step.TheVariants as step;
@@ -40,7 +40,8 @@ pub fn schedule(alloc: Global, plan: &Plan, choices: &Choices) -> Result<StepLis
     if let Err(illegal) = is_legal(plan, choices) {
         return Err(ScheduleEnd::Illegal(illegal));
     }
-    Ok(steps_of(alloc, plan, choices)?)
+    let steps = steps_of(alloc, plan, choices)?;
+    Ok(steps)
 }
 
 fn steps_of(alloc: Global, plan: &Plan, choices: &Choices) -> Result<StepList, OutOfMemory>
@@ -51,7 +52,8 @@ fn steps_of(alloc: Global, plan: &Plan, choices: &Choices) -> Result<StepList, O
     let mut published = 0;
     for phase in 0..plan.len() {
         let asked = plan.at(phase);
-        add_phase(alloc, &mut steps, published, asked, choices.at(phase))?;
+        let counts = choices.at(phase);
+        add_phase(alloc, &mut steps, published, asked, counts)?;
         published = asked.published;
     }
     Ok(steps)
@@ -69,18 +71,54 @@ fn add_phase(
 {
     let mut needs = slices_of(alloc, &asked.needs)?;
     let mut counts = slices_of(alloc, counts)?;
-    hand_in_due(steps, first, &mut needs)?;
-    carry_due(steps, first, &mut counts)?;
+    add_due(steps, first, &mut needs, &mut counts)?;
     for published in first..asked.published {
-        steps.push(Step::Publish)?;
-        hand_in_due(steps, published + 1, &mut needs)?;
-        carry_due(steps, published + 1, &mut counts)?;
+        add_next(steps, published + 1, &mut needs, &mut counts)?;
     }
     steps.push(Step::Barrier)
 }
 
+/// Adds a publication, and what is due with it.
+fn add_next(
+    steps: &mut StepList,
+    published: u32,
+    needs: &mut Vec<&[u32]>,
+    counts: &mut Vec<&[u32]>,
+) -> Result<(), OutOfMemory>
+    requires needs { vec_len needs.old < 2 ^ 32 }
+    requires counts { vec_len counts.old < 2 ^ 32 }
+    ensures steps { OnOk result (steps.new ≡ steps.old ++ step.Publish ∷ all_due published (rows needs.old.items) (rows counts.old.items)) }
+    ensures needs { OnOk result (rows needs.new.items ≡ all_left published (rows needs.old.items)) }
+    ensures counts { OnOk result (rows counts.new.items ≡ all_left published (rows counts.old.items)) }
+    ensures same_needs { vec_len needs.new ≡ vec_len needs.old }
+    ensures same_counts { vec_len counts.new ≡ vec_len counts.old }
+{
+    steps.push(Step::Publish)?;
+    add_due(steps, published, needs, counts)
+}
+
+/// Adds what is due with so many publications: packets are handed in, then carried.
+fn add_due(
+    steps: &mut StepList,
+    published: u32,
+    needs: &mut Vec<&[u32]>,
+    counts: &mut Vec<&[u32]>,
+) -> Result<(), OutOfMemory>
+    requires needs { vec_len needs.old < 2 ^ 32 }
+    requires counts { vec_len counts.old < 2 ^ 32 }
+    ensures steps { OnOk result (steps.new ≡ steps.old ++ all_due published (rows needs.old.items) (rows counts.old.items)) }
+    ensures needs { OnOk result (rows needs.new.items ≡ all_left published (rows needs.old.items)) }
+    ensures counts { OnOk result (rows counts.new.items ≡ all_left published (rows counts.old.items)) }
+    ensures same_needs { vec_len needs.new ≡ vec_len needs.old }
+    ensures same_counts { vec_len counts.new ≡ vec_len counts.old }
+{
+    hand_in_due(steps, published, needs)?;
+    carry_due(steps, published, counts)
+}
+
+/// The lists of a table, lent.
 fn slices_of<'a>(alloc: Global, table: &'a NeedsList) -> Result<Vec<&'a [u32]>, OutOfMemory>
-    ensures slices { IfOk result (λ slices. map (λ slice. slice.now) slices.items ≡ table.now) }
+    ensures slices { IfOk result (λ slices. rows slices.items ≡ table.now) }
     ensures few { IfOk result (λ slices. vec_len slices < 2 ^ 32) }
 {
     let mut slices = Vec::new(alloc);
@@ -98,8 +136,8 @@ fn hand_in_due(
 ) -> Result<(), OutOfMemory>
     requires { vec_len left.old < 2 ^ 32 }
     ensures steps { OnOk result (steps.new ≡ steps.old
-        ++ due_steps (λ processor. step.HandIn processor) published 0 (map (λ slice. slice.now) left.old.items)) }
-    ensures left { OnOk result (map (λ slice. slice.now) left.new.items ≡ all_left published (map (λ slice. slice.now) left.old.items)) }
+        ++ due_steps (λ processor. step.HandIn processor) published 0 (rows left.old.items)) }
+    ensures left { OnOk result (rows left.new.items ≡ all_left published (rows left.old.items)) }
     ensures processors { vec_len left.new ≡ vec_len left.old }
 {
     for place in 0..left.len() {
@@ -118,8 +156,8 @@ fn carry_due(
 ) -> Result<(), OutOfMemory>
     requires { vec_len left.old < 2 ^ 32 }
     ensures steps { OnOk result (steps.new ≡ steps.old
-        ++ due_steps (λ processor. step.Carry processor) published 0 (map (λ slice. slice.now) left.old.items)) }
-    ensures left { OnOk result (map (λ slice. slice.now) left.new.items ≡ all_left published (map (λ slice. slice.now) left.old.items)) }
+        ++ due_steps (λ processor. step.Carry processor) published 0 (rows left.old.items)) }
+    ensures left { OnOk result (rows left.new.items ≡ all_left published (rows left.old.items)) }
     ensures processors { vec_len left.new ≡ vec_len left.old }
 {
     for place in 0..left.len() {

@@ -1,4 +1,11 @@
-use crate::{Event, Illegal, LegalRule, Step, StepEnd, World, is_legal, schedule};
+//! The worked rows: legal and illegal choices, a schedule, and a world that goes through its steps.
+ghost use Rattle.std.specs.Prelude.{◌^◌, ◌<◌, sum_by, IsTrue};
+ghost use Rattle.interleave_core.specs.Event.{IsPossible};
+
+use crate::{
+    Event, Illegal, LegalRule, ScheduleEnd, Step, StepEnd, StepList, World, is_legal, schedule,
+};
+use filter_rules::Policy;
 use lists::{Bytes, OutOfMemory};
 use std::alloc::Global;
 use std::test::Fail;
@@ -149,5 +156,161 @@ fn names_the_first_illegal_packet(rt: HostRuntime) -> Result<(), Fail> {
         });
         assert_eq!(rt; illegal(rt.alloc(), plan, choices)?, want);
     }
+    Ok(())
+}
+
+/// The steps of a schedule.
+fn steps(
+    alloc: Global,
+    plan: &[(u32, Numbers)],
+    choices: &[Numbers],
+) -> Result<StepList, ScheduleEnd> {
+    let (plan, choices) = (plan_of(alloc, plan)?, choices_of(alloc, choices)?);
+    schedule(alloc, &plan, &choices)
+}
+
+#[test]
+fn schedules_each_step_as_early_as_it_may(rt: HostRuntime) -> Result<(), Fail> {
+    let (hand_in, carry) = (Step::HandIn { processor: 0 }, Step::Carry { processor: 0 });
+    let want = [hand_in, carry, Step::Publish, hand_in, carry, Step::Barrier];
+    let given = steps(rt.alloc(), TWO_PACKETS, &[&[&[0, 1]]])?;
+    assert_eq!(rt; given.as_slice(), want.as_slice());
+    let late = [hand_in, Step::Publish, hand_in, carry, carry, Step::Barrier];
+    let given = steps(rt.alloc(), TWO_PACKETS, &[&[&[1, 1]]])?;
+    assert_eq!(rt; given.as_slice(), late.as_slice());
+    Ok(())
+}
+
+const FRAME: [u8; 14] = [2, 0, 0, 0, 0, 1, 2, 0, 0, 0, 0, 2, 0x88, 0xB5];
+
+/// An event in a table, on the one processor there is.
+#[derive(Clone, Copy)]
+enum Come {
+    Load,
+    Status,
+    HandIn,
+    Carry,
+    Barrier,
+}
+
+const EVENTS: &[(Come, Result<(), StepEnd>)] = &[
+    (Come::Carry, Err(StepEnd::EmptyQueue { processor: 0 })),
+    (Come::HandIn, Ok(())),
+    (Come::Barrier, Err(StepEnd::QueueLeft { processor: 0 })),
+    (Come::Carry, Ok(())),
+    (Come::Load, Ok(())),
+    (Come::Load, Ok(())),
+    (Come::Status, Ok(())),
+    (Come::HandIn, Ok(())),
+    (Come::Carry, Ok(())),
+    (Come::Barrier, Ok(())),
+];
+
+fn bytes_of(alloc: Global, bytes: &[u8]) -> Result<Bytes, OutOfMemory> {
+    let mut list = Bytes::new(alloc);
+    list.append(bytes)?;
+    Ok(list)
+}
+
+fn event_of(alloc: Global, come: Come) -> Result<Event, OutOfMemory> {
+    Ok(match come {
+        Come::Load => Event::Command(Command::FilterLoad {
+            interface: bytes_of(alloc, b"eth0")?,
+            mode: Mode::Native,
+            policy: Policy::Allow,
+            features: 31,
+        }),
+        Come::Status => Event::Command(Command::FilterStatus),
+        Come::HandIn => Event::HandIn {
+            processor: 0,
+            packet: packet_of(alloc, &FRAME)?,
+        },
+        Come::Carry => Event::Carry { processor: 0 },
+        Come::Barrier => Event::Barrier,
+    })
+}
+
+fn packet_of(alloc: Global, frame: &[u8; 14]) -> Result<Packet, OutOfMemory> {
+    let mut bytes = Bytes::new(alloc);
+    bytes.append(frame)?;
+    Ok(Packet {
+        id: 0,
+        timestamp: 0,
+        frame: bytes,
+    })
+}
+
+/// Makes an event come, if it is one that may be asked for.
+fn come(
+    world: &mut World,
+    interfaces: &InterfaceList,
+    event: &Event,
+) -> Option<Result<(), StepEnd>> {
+    if interfaces.len() > 8 || !is_possible(world, event) {
+        return None;
+    }
+    Some(world.step(interfaces, event))
+}
+
+/// Whether the processor is there, and a command has a number left.
+fn is_possible(world: &World, event: &Event) -> bool
+    ensures { IsTrue result → IsPossible world.now event.now }
+{
+    match event {
+        Event::Command(Command::FilterRule { .. }) => false,
+        Event::Command(_) => world.state().count() < 65_536,
+        Event::HandIn { processor, .. } | Event::Carry { processor } => {
+            *processor < world.processors()
+        }
+        Event::Barrier => true,
+    }
+}
+
+/// One interface with one queue, and a world over it.
+fn small_world(alloc: Global) -> Result<Option<(InterfaceList, World)>, OutOfMemory> {
+    let mut interfaces = InterfaceList::new(alloc);
+    interfaces.push(Interface {
+        name: bytes_of(alloc, b"eth0")?,
+        queues: 1,
+    })?;
+    new_world(alloc, interfaces)
+}
+
+fn new_world(
+    alloc: Global,
+    interfaces: InterfaceList,
+) -> Result<Option<(InterfaceList, World)>, OutOfMemory> {
+    if !has_one_queue(interfaces.as_slice()) {
+        return Ok(None);
+    }
+    let world = World::new(alloc, &interfaces)?;
+    Ok(Some((interfaces, world)))
+}
+
+fn has_one_queue(interfaces: &[Interface]) -> bool
+    ensures { IsTrue result → sum_by (λ interface. interface.queues) interfaces.now < 2 ^ 32 }
+{
+    matches!(interfaces, [only] if only.queues == 1)
+}
+
+fn only_row(tables: &[NeedsList]) -> Option<&[u32]> {
+    let table = tables.first()?;
+    table.as_slice().first().map(|row| row.as_slice())
+}
+
+#[test]
+fn a_world_goes_from_step_to_step(rt: HostRuntime) -> Result<(), Fail> {
+    let (interfaces, mut world) = small_world(rt.alloc())?.ok_or("no world")?;
+    for (asked, want) in EVENTS {
+        let event = event_of(rt.alloc(), *asked)?;
+        assert_eq!(rt; come(&mut world, &interfaces, &event), Some(*want));
+    }
+    assert_eq!(rt; world.state().count(), 1);
+    assert_eq!(rt; world.plan().len(), 1);
+    assert_eq!(rt; world.choices().len(), 1);
+    assert_eq!(rt;
+        only_row(world.choices()).ok_or("no counts")?,
+        [0, 1].as_slice()
+    );
     Ok(())
 }

@@ -48,10 +48,12 @@ impl World {
         ensures { IfOk result (λ world. world ≡ beginning (sum_by (λ interface. interface.queues) interfaces.now)) }
     {
         let processors = queues_of(interfaces.as_slice());
+        let state = State::new(alloc)?;
+        let lanes = idle_lanes(alloc, processors as usize)?;
         Ok(World {
-            state: State::new(alloc)?,
+            state,
             changes: Vec::new(alloc),
-            lanes: idle_lanes(alloc, processors as usize)?,
+            lanes,
             plan: Vec::new(alloc),
             choices: Vec::new(alloc),
         })
@@ -63,7 +65,6 @@ impl World {
         requires possible { IsPossible self.old event.now }
         requires interfaces { length interfaces.now ≤ 8 }
         ensures happens { OnOk result (Happens interfaces.now self.old event.now self.new) }
-        ensures sound { IsSoundMoment self.new }
         ensures refused { (stop : StepEnd) → refusal self.old event.now ≡ Some stop → result ≡ Err stop }
         ensures only { IfErr result (λ stop. stop ≢ StepEnd.OutOfMemory → refusal self.old event.now ≡ Some stop) }
         ensures err { OnErr result (self.new ≡ self.old) }
@@ -76,10 +77,12 @@ impl World {
         }
     }
 
-    /// By phase that has ended, by processor and packet: with how many publications it was carried.
+    /// By phase that has ended, by processor and packet: with how many publications it was carried. At each moment these
+    /// counts are legal for the plan, and so are those of the phase under way as far as they go.
     pub fn choices(&self) -> &[NeedsList]
         ensures choices { result.now ≡ self.now.choices }
         ensures legal { AreLegalFor self.now.plan result.now }
+        ensures sound { IsSoundMoment self.now }
     {
         self.choices.as_slice()
     }
@@ -91,9 +94,17 @@ impl World {
         self.plan.as_slice()
     }
 
+    /// How many processors there are.
+    pub fn processors(&self) -> u32
+        ensures { result ≡ length self.now.processors }
+    {
+        self.lanes.len() as u32
+    }
+
     /// What the publications so far have made.
     pub fn state(&self) -> &State
-        ensures { result.now ≡ after self.now.published }
+        ensures state { result.now ≡ after self.now.published }
+        ensures count { result.now.count ≡ length self.now.published }
     {
         &self.state
     }

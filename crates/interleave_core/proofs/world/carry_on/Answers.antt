@@ -1,6 +1,5 @@
-use Rattle.std.proofs.Common.{◌<◌, length, ap, ◌∙◌, arith, slice_set}
-use Rattle.interleave_core.proofs.Answered.{on_ok-then}
-use Rattle.interleave_core.proofs.Lanes.{changed_at-set, waits_at-get}
+use Rattle.std.proofs.Common.{◌<◌, length, ◌∙◌, arith}
+use Rattle.interleave_core.proofs.Lanes.{changed-on_ok, waits_at-get}
 use Rattle.interleave_core.specs.Traffic.{with_count}
 use Rattle.interleave_core.proofs.world.carry_on.Goals as goal
 
@@ -12,5 +11,4 @@ carry-requires c =
 pub returns-clause-ok : goal.returns-clause-ok
 returns-clause-ok c =
     let below : c.args.processor < length c.args.lanes.now.items = omega (arith, c.requires.place, c.args.lanes.now.ok) in
-    on_ok-then _ _ _ (λ is. ap (slice_set c.args.lanes.now.items c.args.processor) is ∙ changed_at-set c.args.processor (with_count c.args.count) c.args.lanes.now.items c.index_mut.result.now below c.index_mut.ensures.value)
-    c.carry.ensures.ok
+    changed-on_ok c.carry.result c.args.processor (with_count c.args.count) c.args.lanes.now.items c.index_mut.result.now c.carry.new.self below c.index_mut.ensures.value c.carry.ensures.ok

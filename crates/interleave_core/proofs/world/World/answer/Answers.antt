@@ -1,0 +1,4 @@
+use Rattle.interleave_core.proofs.world.World.answer.Goals as goal
+
+pub publish-requires : goal.publish-requires
+publish-requires c = ?
