@@ -12,7 +12,8 @@ use Rattle.xdp_state.specs.declared.change.Change.TheVariants.{Detach}
 use Rattle.xdp_state.specs.declared.plan.PlanPhase.{PlanPhase}
 
 pub steps-give : (processors : ℕ) (plan : List PlanPhase) (choices : List (List (List ℕ))) → IsPlan processors plan → AreLegalFor plan choices → StepsGive processors (plan_steps 0 plan choices) plan choices
-steps-give processors plan choices is legal moves steps =
+steps-give processors plan choices is legal =
+    λ moves steps.
     let run = run-plan processors 0 [] plan choices [] [] is legal.whole legal.legal in
     let from : Runs (plan_steps 0 plan choices) (numbers_of (beginning processors)) (numbers run.0 (replicate processors no_line) plan choices) = subst (λ x. Runs (plan_steps 0 plan choices) x (numbers run.0 (replicate processors no_line) plan choices)) (sym (numbers-beginning processors)) run.1 in
     let all = subst (λ ss. Runs ss (numbers_of (beginning processors)) (numbers run.0 (replicate processors no_line) plan choices)) (sym steps) from in

@@ -77,3 +77,23 @@ rows-next slices slice place table row so_far there is =
     ∙ ap (λ xs. xs ++ slice.now ∷ []) so_far
     ∙ ap (λ x. take place table ++ x ∷ []) is
     ∙ sym (take-get table place row there)
+
+rows-at : (slices : List (Bor (List ℕ))) (k : ℕ) (slice : Bor (List ℕ)) → k < length slices → slice ≡ get_or slices k slice → get_or (rows slices) k [] ≡ slice.now
+rows-at [] k slice below is = absurd (omega arith)
+rows-at (s ∷ slices) zero slice below is = ap (λ (x : Bor (List ℕ)). x.now) (sym is)
+rows-at (s ∷ slices) (suc k) slice below is = rows-at slices k slice (omega arith) is
+
+-- one processor further
+pub record IsOneOn (of : ℕ → Step) (n k : ℕ) (lists left : List (List ℕ)) (steps all : List Step) : Type 0 where
+  pub steps_are : steps ++ due_steps of n (k + 1) (drop (k + 1) lists) ≡ all
+  pub left_are : left ≡ all_left n (take (k + 1) lists) ++ drop (k + 1) lists
+
+pub one_on : (of : ℕ → Step) (n k : ℕ) (lists : List (List ℕ)) (slices : List (Bor (List ℕ))) (slice rest : Bor (List ℕ)) (old steps all : List Step) → k < length lists → k < length slices → old ++ due_steps of n k (drop k lists) ≡ all → rows slices ≡ all_left n (take k lists) ++ drop k lists → slice ≡ get_or slices k slice → rest.now ≡ drop (due n slice.now) slice.now → steps ≡ old ++ replicate (due n slice.now) (of k) → IsOneOn of n k lists (rows (slice_set slices k rest)) steps all
+one_on of n k lists slices slice rest old steps all below under so_far left is rests more =
+    let here : slice.now ≡ get_or lists k [] = sym (rows-at slices k slice under is) ∙ left-at n k lists (rows slices) below left in
+    let more2 : steps ≡ old ++ replicate (due n (get_or lists k [])) (of k) = more ∙ ap (λ xs. old ++ replicate (due n xs) (of k)) here in
+    let rests2 : rest.now ≡ left_of n (get_or lists k []) = rests ∙ ap (λ xs. left_of n xs) here in
+    record {
+      steps_are = due_steps-at of n k lists old steps all below more2 so_far;
+      left_are = map-set (λ (s : Bor (List ℕ)). s.now) slices k rest ∙ ap (λ r. slice_set (rows slices) k r) rests2 ∙ left-set n k lists (rows slices) below left;
+    }
