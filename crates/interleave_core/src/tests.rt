@@ -9,7 +9,9 @@ use filter_rules::Policy;
 use lists::{Bytes, OutOfMemory};
 use std::alloc::Global;
 use std::test::Fail;
-use xdp_state::{Choices, CountList, Interface, InterfaceList, NeedsList, Packet, Plan, PlanPhase};
+use xdp_state::{
+    Choices, Command, CountList, Interface, InterfaceList, Mode, NeedsList, Packet, Plan, PlanPhase,
+};
 
 /// By processor, the numbers of its packets.
 type Numbers = &'static [&'static [u32]];
