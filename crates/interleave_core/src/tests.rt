@@ -243,7 +243,7 @@ fn packet_of(alloc: Global, frame: &[u8; 14]) -> Result<Packet, OutOfMemory> {
 }
 
 /// Makes an event come, if it is one that may be asked for.
-fn come(
+fn step_if_possible(
     world: &mut World,
     interfaces: &InterfaceList,
     event: &Event,
@@ -305,7 +305,10 @@ fn a_world_goes_from_step_to_step(rt: HostRuntime) -> Result<(), Fail> {
     let (interfaces, mut world) = small_world(rt.alloc())?.ok_or("no world")?;
     for (asked, want) in EVENTS {
         let event = event_of(rt.alloc(), *asked)?;
-        assert_eq!(rt; come(&mut world, &interfaces, &event), Some(*want));
+        assert_eq!(rt;
+            step_if_possible(&mut world, &interfaces, &event),
+            Some(*want)
+        );
     }
     assert_eq!(rt; world.state().count(), 1);
     assert_eq!(rt; world.plan().len(), 1);
