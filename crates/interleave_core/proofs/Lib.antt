@@ -1,0 +1,12 @@
+pub mod Answered
+pub mod Breaking
+pub mod Due
+pub mod Giving
+pub mod Lanes
+pub mod LastCounts
+pub mod Numbers
+pub mod Places
+pub mod Pushing
+pub mod Running
+pub mod SoundSteps
+pub mod Worlds

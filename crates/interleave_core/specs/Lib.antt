@@ -1,0 +1,9 @@
+pub mod Event
+pub mod LaneView
+pub mod Legality
+pub mod Moment
+pub mod Reached
+pub mod Schedule
+pub mod Sound
+pub mod Traffic
+pub mod WorldView
