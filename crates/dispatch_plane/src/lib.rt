@@ -10,8 +10,6 @@ mod port;
 mod ports;
 mod published;
 mod publisher;
-#[cfg(test)]
-mod tests;
 mod view;
 
 pub use lens::{Lens, NoView};

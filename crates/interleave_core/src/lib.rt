@@ -8,8 +8,6 @@ mod lane;
 mod legality;
 mod scheduling;
 mod step;
-#[cfg(test)]
-mod tests;
 mod world;
 
 pub use event::{Event, StepEnd};

@@ -1,5 +1,5 @@
 use Rattle.dispatch_plane.specs.Sight.{Joins}
-use Rattle.dispatch_plane.proofs.tests.look.Given as goal
+use Rattle.order_tests.proofs.planes.look.Given as goal
 
 abbrev pub invariant-enters : goal.invariant-enters
 invariant-enters l = Joins l.fn.port.plane l.port

@@ -2,10 +2,10 @@
 ghost use Rattle.std.specs.Prelude.{◌^◌, ◌<◌, sum_by, IsTrue};
 ghost use Rattle.interleave_core.specs.Event.{IsPossible};
 
-use crate::{
+use filter_rules::Policy;
+use interleave_core::{
     Event, Illegal, LegalRule, ScheduleEnd, Step, StepEnd, StepList, World, is_legal, schedule,
 };
-use filter_rules::Policy;
 use lists::{Bytes, OutOfMemory};
 use std::alloc::Global;
 use std::test::Fail;

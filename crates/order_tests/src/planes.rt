@@ -3,7 +3,7 @@
 ghost use Rattle.std.specs.Prelude.{◌≡◌, false};
 ghost use Rattle.dispatch_plane.specs.Sight.{Joins};
 
-use super::*;
+use dispatch_plane::{Note, Port, Publisher, close_plane, open_plane};
 use std::snapshot::Snapshot;
 use std::sync::Wait;
 use std::test::Fail;
