@@ -14,4 +14,3 @@ pub use bad_btf::{BadBtf, BtfEnd};
 pub use read::read_btf;
 pub use size::Size;
 pub use types::{Part, TypeRow, Types};
-

@@ -20,4 +20,3 @@ pub use object::{Object, read_object};
 pub use reloc::Reloc;
 pub use section::Section;
 pub use symbol::Symbol;
-

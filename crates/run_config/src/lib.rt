@@ -16,4 +16,3 @@ pub use config::{BadConfig, config_of};
 pub use maps::maps_of;
 pub use named_map::{MapsEnd, NamedMap, add_map};
 pub use settings::RunConfig;
-

@@ -40,4 +40,3 @@ pub use table::{rules_print, rules_text};
 pub use trace::{TraceRow, trace_line, trace_print};
 pub use vocabulary::{action_name, action_of, mode_name, mode_of, policy_name, policy_of};
 pub use what::{Line, LineList, What};
-

@@ -6,11 +6,11 @@ use Rattle.xdp_tool.proofs.tool.run_tool.Goals as goal
 
 pub returns-clause-explained : goal.returns-clause-explained
 returns-clause-explained g c = λ tells. (
-      Whole,
-      rw (c.ended_so.ensures.status, c.ended_so.ensures.choices) (explained-told _ _ c.tell.result c.run-ending.result c.tell.ensures.same (c.run-ending.ensures.explained tells)),
-      rw c.ended_so.ensures.choices (λ told. (c.run-ending.ensures.out tells told).front),
-      rw c.ended_so.ensures.choices (trace-front _ _ _ _ _ (c.run-ending.ensures.trace tells)),
-    )
+  Whole,
+  rw (c.ended_so.ensures.status, c.ended_so.ensures.choices) (explained-told _ _ c.tell.result c.run-ending.result c.tell.ensures.same (c.run-ending.ensures.explained tells)),
+  rw c.ended_so.ensures.choices (λ told. (c.run-ending.ensures.out tells told).front),
+  rw c.ended_so.ensures.choices (trace-front _ _ _ _ _ (c.run-ending.ensures.trace tells)),
+)
 
 pub returns-clause-traced : goal.returns-clause-traced
 returns-clause-traced g c = λ tells ended.
