@@ -1,5 +1,5 @@
 -- What holds of a script that is read.
-use Rattle.std.specs.Prelude.{◌≡◌, ℕ, ◌≤◌, ◌&&◌, Bool, true, nat_lt, nat_le, length}
+use Rattle.std.specs.Prelude.{◌≡◌, ℕ, ◌≤◌, Bool, true, nat_lt, length}
 use Rattle.std.specs.List.{list_all}
 use Rattle.xdp_state.specs.Answer.{rule_fits}
 use Rattle.script_text.specs.Frames.{has_frame_size}

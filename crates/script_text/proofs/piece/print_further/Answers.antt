@@ -1,4 +1,4 @@
-use Rattle.xio.proofs.PrintLemmas.{prints_stop, prints_then}
+use Rattle.xio.proofs.PrintLemmas.{prints_stop}
 use Rattle.script_text.proofs.piece.print_further.Goals as goal
 
 pub returns-in_err-print : goal.returns-in_err-print

@@ -1,4 +1,4 @@
-use Rattle.xio.proofs.PrintLemmas.{prints_stop, prints_then}
+use Rattle.xio.proofs.PrintLemmas.{prints_stop}
 use Rattle.script_text.specs.Texts.{processor_line}
 use Rattle.script_text.proofs.processor.processor_print.Goals as goal
 
