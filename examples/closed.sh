@@ -26,8 +26,7 @@ compare "out closed" 3 $? "$folder/begun"
 grep -qx "xdptool: fault" "$folder/err" || { echo "out closed: err doesn't say so" >&2; failed=1; }
 "$program" --trace "$folder/trace" "$script" <&- >&- 2>&-
 compare "all closed" 3 $? "$folder/begun"
-"$program" --trace "$folder/trace" "$script" <&- 2>&- | cmp - "$folder/out" || failed=1
-compare "in and err closed" 0 0 "$folder/whole"
 "$program" --trace "$folder/trace" "$script" <&- 2>&- > "$folder/again"
-compare "in and err closed, with their status" $status $? "$folder/whole"
+compare "in and err closed" $status $? "$folder/whole"
+cmp "$folder/out" "$folder/again" || failed=1
 exit $failed
