@@ -1,9 +1,9 @@
 -- Legal choices are given by the steps of their schedule, whatever is published and handed in; and only legal ones by any steps.
-use Rattle.std.proofs.Common.{◌≡◌, ℕ, Bool, true, false, ◌↔◌, List, [], ◌∷◌, map, replicate, refl, sym, ap, subst, ◌∙◌}
+use Rattle.std.proofs.Common.{◌≡◌, ℕ, false, List, [], ◌∷◌, map, replicate, refl, sym, ap, subst, ◌∙◌}
 use Rattle.interleave_core.proofs.Numbers.{Numbers, Runs, no_line, numbers-beginning, numbers_of, runs-lead}
 use Rattle.interleave_core.proofs.Running.{numbers, run-plan}
 use Rattle.interleave_core.specs.Moment.{Move, Publishes, HandsIn, Carries, EndsPhase, beginning}
-use Rattle.interleave_core.specs.Reached.{Gives, IsPlan, IsReached, StepsGive, step_of}
+use Rattle.interleave_core.specs.Reached.{IsPlan, IsReached, StepsGive, step_of}
 use Rattle.interleave_core.specs.Schedule.{plan_steps}
 use Rattle.interleave_core.specs.Sound.{AreLegalFor}
 use Rattle.interleave_core.specs.declared.step.Step.{Step}

@@ -1,5 +1,5 @@
 -- The traffic of one processor among all.
-use Rattle.std.proofs.Common.{◌≡◌, ℕ, ◌+◌, ◌<◌, ◌≤◌, zero, suc, Bool, true, false, List, [], ◌∷◌, ◌++◌, length, take, drop, get_or, slice_set, Result, OnOk, length-append, refl, sym, ap, ◌∙◌, arith}
+use Rattle.std.proofs.Common.{◌≡◌, ℕ, ◌<◌, zero, suc, List, [], ◌∷◌, ◌++◌, length, take, drop, get_or, slice_set, Result, OnOk, length-append, refl, ap, ◌∙◌, arith}
 use Rattle.interleave_core.proofs.Answered.{on_ok-then}
 use Rattle.interleave_core.specs.Moment.{changed_at, waits_at}
 use Rattle.interleave_core.specs.Traffic.{Traffic, waits, with_count}

@@ -1,5 +1,5 @@
 -- The last counts of processors, looked up by phase and number.
-use Rattle.std.proofs.Common.{◌≡◌, ℕ, ◌+◌, ◌-◌, ◌<◌, ◌≤◌, zero, suc, List, [], ◌∷◌, ◌++◌, Option, Some, None, unwrap_or, length, take, drop, get_or, fold, slice_get, refl, sym, ap, ◌∙◌, arith}
+use Rattle.std.proofs.Common.{◌≡◌, ℕ, ◌+◌, ◌-◌, zero, suc, List, [], ◌∷◌, ◌++◌, Option, Some, None, unwrap_or, length, take, drop, get_or, slice_get, refl, ap, ◌∙◌, arith}
 use Rattle.std.proofs.lemmas.List.Sums.{fold-append}
 use Rattle.interleave_core.specs.Sound.{last_counts}
 use Rattle.xdp_state.specs.Legal.{first_last, last_of, lasts_of, other_lasts}

@@ -1,16 +1,14 @@
 -- Moments seen by their numbers alone: what is published and handed in plays no part in which steps can be made.
-use Rattle.std.proofs.Common.{◌≡◌, ℕ, ◌+◌, ◌<◌, ◌≤◌, zero, suc, Bool, true, false, ◌||◌, nat_lt, List, [], ◌∷◌, ◌++◌, length, map, replicate, drop, take, append_assoc, append-nil, length-append, refl, sym, ap, subst, ◌∙◌, arith}
+use Rattle.std.proofs.Common.{◌≡◌, ℕ, ◌+◌, ◌<◌, zero, suc, Bool, true, false, nat_lt, List, [], ◌∷◌, ◌++◌, length, map, replicate, drop, length-append, refl, sym, ap, subst, ◌∙◌, arith}
 use Rattle.std.specs.Prelude.{⊤}
 use Rattle.std.specs.List.{list_any}
-use Rattle.std.proofs.lemmas.List.{length-map, length-replicate, map-append}
+use Rattle.std.proofs.lemmas.List.{length-map, map-append}
 use Rattle.interleave_core.specs.Moment.{Goes, Leads, Moment, Move, Publishes, HandsIn, Carries, EndsPhase, beginning, carried_by, changed_at, handed_in, phase_ended, waits_at, with_change}
 use Rattle.interleave_core.specs.Reached.{step_of}
 use Rattle.interleave_core.specs.Traffic.{Traffic, idle, waits, with_count, with_packet}
 use Rattle.interleave_core.specs.declared.step.Step.{Step}
 use Rattle.interleave_core.specs.declared.step.Step.TheVariants as step
-use Rattle.xdp_state.specs.Handed.{Handed}
 use Rattle.xdp_state.specs.Work.{needs_of}
-use Rattle.xdp_state.specs.declared.change.Change.{Change}
 use Rattle.xdp_state.specs.declared.packet.HandIn.{HandIn}
 use Rattle.xdp_state.specs.declared.plan.PlanPhase.{PlanPhase}
 

@@ -1,14 +1,14 @@
 -- The first illegal packet, as a walk over places comes to it.
-use Rattle.std.proofs.Common.{◌≡◌, ℕ, ◌+◌, ◌<◌, ◌≤◌, zero, suc, min, Bool, true, false, cond, ◌==◌, List, [], ◌∷◌, length, take, drop, get_or, slice_get, Option, Some, None, refl, sym, ap, subst, ◌∙◌, arith, inl, inr, ◌⊎◌}
+use Rattle.std.proofs.Common.{◌≡◌, ℕ, ◌+◌, ◌<◌, ◌≤◌, min, true, false, cond, ◌==◌, List, [], ◌∷◌, length, take, drop, get_or, slice_get, Option, Some, None, refl, sym, ap, ◌∙◌, arith, inl, inr}
 use Rattle.std.specs.Option.{option_or}
 use Rattle.std.proofs.lemmas.Bool.{cases_order, eq-eqb, ne_eqb}
 use Rattle.std.proofs.lemmas.List.{drop_all, drop_more}
-use Rattle.interleave_core.proofs.LastCounts.{drop-get, first_last-drop, last_counts-next, other_lasts-drop, take-get}
+use Rattle.interleave_core.proofs.LastCounts.{drop-get, first_last-drop, last_counts-next, other_lasts-drop}
 use Rattle.interleave_core.specs.Legality.{breaks, illegal_from, illegal_in, illegal_on, illegal_packet, lacking_from, lacking_in, lacking_packet}
 use Rattle.interleave_core.specs.Sound.{last_counts}
 use Rattle.interleave_core.specs.declared.illegal.Illegal.{Illegal}
 use Rattle.interleave_core.specs.declared.illegal.LegalRule.TheVariants.{Shape}
-use Rattle.xdp_state.specs.Legal.{first_last, lasts_of, other_lasts}
+use Rattle.xdp_state.specs.Legal.{other_lasts}
 use Rattle.xdp_state.specs.declared.plan.PlanPhase.{PlanPhase}
 
 pub lacking_in-at : (phase p : ℕ) (needs counts : List (List ℕ)) (n c : List ℕ) → slice_get needs p ≡ Some n → slice_get counts p ≡ Some c → lacking_in phase p (drop p needs) (drop p counts) ≡ option_or (lacking_packet phase p n c) (lacking_in phase (p + 1) (drop (p + 1) needs) (drop (p + 1) counts))

@@ -1,5 +1,5 @@
 -- The steps of a schedule lead from number to number.
-use Rattle.std.proofs.Common.{◌≡◌, ℕ, ◌+◌, ◌-◌, ◌<◌, ◌≤◌, zero, suc, Bool, true, false, ◌||◌, nat_lt, List, [], ◌∷◌, ◌++◌, length, map, replicate, drop, append_assoc, append-nil, length-append, length-drop, refl, sym, ap, subst, ◌∙◌, arith}
+use Rattle.std.proofs.Common.{◌≡◌, ℕ, ◌+◌, ◌-◌, ◌<◌, ◌≤◌, zero, suc, false, List, [], ◌∷◌, ◌++◌, length, map, replicate, drop, append_assoc, append-nil, length-append, length-drop, refl, sym, ap, subst, ◌∙◌, arith}
 use Rattle.std.specs.Prelude.{⊤}
 use Rattle.std.specs.List.{list_any}
 use Rattle.std.proofs.lemmas.Bool.{lt-ltb}
@@ -8,7 +8,6 @@ use Rattle.interleave_core.proofs.Due.{due-split, enough, legal-first, legal-lat
 use Rattle.interleave_core.proofs.Numbers.{Line, Numbers, Runs, line_waits, line_waits_at, lines_at, no_line, one_carried, one_handed, runs-append}
 use Rattle.interleave_core.specs.Reached.{AllAreNeeds, AreNeeds, ArePhases}
 use Rattle.interleave_core.specs.Schedule.{all_due, all_left, due, due_steps, left_of, phase_steps, plan_steps, steps_after}
-use Rattle.interleave_core.specs.declared.step.Step.{Step}
 use Rattle.interleave_core.specs.declared.step.Step.TheVariants as step
 use Rattle.xdp_state.specs.Legal.{AreLegalAfter, AreLegalCounts, AreLegalFrom, first_last, lasts_of, other_lasts}
 use Rattle.xdp_state.specs.declared.plan.PlanPhase.{PlanPhase}

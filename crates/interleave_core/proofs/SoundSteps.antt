@@ -1,15 +1,14 @@
 -- Each step keeps what holds at every moment.
-use Rattle.std.proofs.Common.{◌≡◌, ℕ, ◌+◌, ◌<◌, ◌≤◌, zero, suc, Bool, true, false, ◌||◌, nat_lt, List, [], ◌∷◌, ◌++◌, length, map, replicate, fold, append_assoc, append-nil, length-append, refl, sym, ap, subst, ◌∙◌, arith, ⊎_elim, inl, inr, ◌⊎◌}
+use Rattle.std.proofs.Common.{◌≡◌, ℕ, ◌+◌, ◌≤◌, zero, suc, Bool, true, false, ◌||◌, nat_lt, List, [], ◌∷◌, ◌++◌, length, map, replicate, fold, append_assoc, append-nil, length-append, refl, sym, ap, subst, ◌∙◌, arith}
 use Rattle.std.specs.List.{list_any}
 use Rattle.std.proofs.lemmas.Bool.{ltb-false}
-use Rattle.std.proofs.lemmas.List.{length-replicate}
 use Rattle.std.proofs.lemmas.List.Sums.{fold-append}
 use Rattle.interleave_core.specs.Moment.{Goes, Leads, Moment, Move, Publishes, HandsIn, Carries, EndsPhase, beginning, carried_by, changed_at, handed_in, phase_ended, waits_at, with_change}
-use Rattle.interleave_core.specs.Reached.{Gives, IsReached}
+use Rattle.interleave_core.specs.Reached.{IsReached}
 use Rattle.interleave_core.specs.Sound.{AreLegalFor, AreSound, AreWithin, IsSound, IsSoundMoment, last_counts}
 use Rattle.interleave_core.specs.Traffic.{Traffic, idle, waits, with_count, with_packet}
 use Rattle.xdp_state.specs.Handed.{Handed}
-use Rattle.xdp_state.specs.Legal.{AreLegal, AreLegalAfter, AreLegalCounts, AreLegalFrom, first_last, last_of, lasts_of, other_lasts}
+use Rattle.xdp_state.specs.Legal.{AreLegalAfter, AreLegalCounts, AreLegalFrom, first_last, last_of, lasts_of, other_lasts}
 use Rattle.xdp_state.specs.Work.{needs_of}
 use Rattle.xdp_state.specs.declared.change.Change.{Change}
 use Rattle.xdp_state.specs.declared.packet.HandIn.{HandIn}

@@ -1,5 +1,5 @@
 -- What each step of a world keeps of its fields.
-use Rattle.std.proofs.Common.{◌≡◌, ℕ, ◌+◌, ◌<◌, ◌^◌, Bool, true, false, cond, nat_lt, List, [], ◌∷◌, ◌++◌, length, map, replicate, Option, Some, None, refl, sym, ap, subst, ◌∙◌, arith}
+use Rattle.std.proofs.Common.{◌≡◌, ℕ, Bool, true, false, cond, nat_lt, List, [], ◌∷◌, ◌++◌, length, map, replicate, Option, Some, None, refl, sym, ap, subst, ◌∙◌, arith}
 use Rattle.std.specs.List.{list_any, position, position_or_len}
 use Rattle.std.specs.Option.{is_some}
 use Rattle.std.proofs.lemmas.Bool.{false≢true}
@@ -14,7 +14,6 @@ use Rattle.xdp_state.specs.Book.{AllTaken, Book, after, applied, takes}
 use Rattle.xdp_state.specs.Handed.{Handed}
 use Rattle.xdp_state.specs.Work.{needs_of}
 use Rattle.xdp_state.specs.declared.change.Change.{Change}
-use Rattle.xdp_state.specs.declared.packet.HandIn.{HandIn}
 use Rattle.xdp_state.specs.declared.plan.PlanPhase.{PlanPhase}
 
 -- the state and what was published, and with it a moment that is sound

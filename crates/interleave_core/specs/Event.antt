@@ -1,5 +1,5 @@
 -- What events make of a moment, and which can't come.
-use Rattle.std.specs.Prelude.{◌≡◌, ℕ, ◌<◌, true, List, length, position, Option, Some, None, if◌then◌else◌, ⊤}
+use Rattle.std.specs.Prelude.{◌≡◌, ◌<◌, true, List, length, position, Option, Some, None, if◌then◌else◌, ⊤}
 use Rattle.std.specs.Option.{option_map}
 use Rattle.interleave_core.specs.Moment.{Goes, Moment, Publishes, HandsIn, Carries, EndsPhase, waits_at}
 use Rattle.interleave_core.specs.Traffic.{waits}

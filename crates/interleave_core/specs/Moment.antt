@@ -6,7 +6,6 @@ use Rattle.interleave_core.specs.Traffic.{Traffic, idle, waits, with_count, with
 use Rattle.xdp_state.specs.Handed.{Handed}
 use Rattle.xdp_state.specs.Work.{needs_of}
 use Rattle.xdp_state.specs.declared.change.Change.{Change}
-use Rattle.xdp_state.specs.declared.packet.HandIn.{HandIn}
 use Rattle.xdp_state.specs.declared.plan.PlanPhase.{PlanPhase}
 
 -- A moment of a run.

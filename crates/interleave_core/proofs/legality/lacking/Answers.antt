@@ -1,4 +1,4 @@
-use Rattle.std.proofs.Common.{◌≡◌, ◌≤◌, min, length, arith}
+use Rattle.std.proofs.Common.{◌≡◌, min, length, arith}
 use Rattle.interleave_core.proofs.Places.{found-at, lacking_from-at, last-lacking_from, next-at}
 use Rattle.interleave_core.specs.Legality.{lacking_from}
 use Rattle.interleave_core.proofs.legality.lacking.Goals as goal

@@ -1,4 +1,4 @@
-use Rattle.std.proofs.Common.{◌≡◌, ◌≤◌, min, length, arith}
+use Rattle.std.proofs.Common.{◌≡◌, min, length, arith}
 use Rattle.interleave_core.proofs.Places.{found-at, lacking_in-at, last-lacking_in, next-at}
 use Rattle.interleave_core.specs.Legality.{lacking_in}
 use Rattle.interleave_core.proofs.legality.lacking_in.Goals as goal

@@ -1,4 +1,4 @@
-use Rattle.std.proofs.Common.{◌≡◌, ◌+◌, ◌-◌, ◌≤◌, get_or, take, sym, ap, ◌∙◌, arith}
+use Rattle.std.proofs.Common.{◌≡◌, ◌+◌, ◌-◌, get_or, take, sym, ap, ◌∙◌, arith}
 use Rattle.interleave_core.proofs.LastCounts.{last_counts-at, unwrap-past}
 use Rattle.interleave_core.specs.Sound.{last_counts}
 use Rattle.interleave_core.proofs.legality.last_before.Goals as goal

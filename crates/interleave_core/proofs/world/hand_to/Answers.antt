@@ -1,4 +1,4 @@
-use Rattle.std.proofs.Common.{◌<◌, length, ◌∙◌, arith}
+use Rattle.std.proofs.Common.{◌<◌, length, arith}
 use Rattle.interleave_core.proofs.Lanes.{changed-on_ok}
 use Rattle.interleave_core.specs.Traffic.{with_packet}
 use Rattle.interleave_core.proofs.world.hand_to.Goals as goal

@@ -1,4 +1,4 @@
-use Rattle.std.proofs.Common.{◌≡◌, ap, ◌∙◌}
+use Rattle.std.proofs.Common.{ap, ◌∙◌}
 use Rattle.interleave_core.proofs.Answered.{on_ok-then}
 use Rattle.interleave_core.proofs.Lanes.{counted-more}
 use Rattle.interleave_core.specs.Traffic.{with_count}

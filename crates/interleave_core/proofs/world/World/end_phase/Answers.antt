@@ -8,7 +8,6 @@ use Rattle.interleave_core.specs.Sound.{IsSoundMoment}
 use Rattle.interleave_core.specs.Traffic.{Traffic, idle, waits}
 use Rattle.interleave_core.specs.WorldView.{moment_of}
 use Rattle.xdp_state.specs.Work.{needs_of}
-use Rattle.xdp_state.specs.declared.plan.PlanPhase.{PlanPhase}
 use Rattle.interleave_core.proofs.world.World.end_phase.Goals as goal
 
 pub invariant_of-self-2 : goal.invariant_of-self-2
