@@ -38,7 +38,7 @@ fn names_the_first_broken_rule(rt: HostRuntime) -> Result<(), Fail> {
 }
 
 /// Constants of 5 bytes, two counters of 4 bytes, and a hash with no key.
-#[tactic(auto, unfolding(crate::specs::Spec::spec_rule, crate::specs::Spec::rounded))]
+#[tactic(auto, unfolding(map_store::specs::Spec::spec_rule, map_store::specs::Spec::rounded))]
 fn three_maps(alloc: Global) -> Result<Store, OutOfMemory> {
     let mut initial = Bytes::new(alloc);
     initial.append(&[1, 2, 3, 4, 5])?;
@@ -171,7 +171,7 @@ fn lookup(store: &Store, map: u32, key: u8) -> Option<u32> {
 }
 
 #[test]
-#[tactic(auto, unfolding(crate::specs::Spec::spec_rule, crate::specs::Spec::rounded))]
+#[tactic(auto, unfolding(map_store::specs::Spec::spec_rule, map_store::specs::Spec::rounded))]
 fn keeps_two_keys(rt: HostRuntime) -> Result<(), Fail> {
     let specs = [spec_of(rt.alloc(), MapKind::PercpuHash, 4, 2)];
     let mut store = Store::new(rt.alloc(), &specs)?;
@@ -188,7 +188,7 @@ fn keeps_two_keys(rt: HostRuntime) -> Result<(), Fail> {
 }
 
 #[test]
-#[tactic(auto, unfolding(crate::specs::Spec::spec_rule, crate::specs::Spec::rounded))]
+#[tactic(auto, unfolding(map_store::specs::Spec::spec_rule, map_store::specs::Spec::rounded))]
 fn answers_in_order(rt: HostRuntime) -> Result<(), Fail> {
     let specs = [
         spec_of(rt.alloc(), MapKind::Array, 4, 2),
