@@ -33,7 +33,7 @@ def tables(lines, rules):
 
 
 def cost(words):
-    """Processor milliseconds and MB of a run, the latter by a small process in between, since Python's own count otherwise."""
+    """Processor milliseconds and MB of a run, with a small process in between, since else the MB of Python would count."""
     words = ["/usr/bin/time", "-f", "%M", "-o", peak, *words]
     out = os.open(os.devnull, os.O_WRONLY)
     pid = os.posix_spawn(words[0], words, os.environ, file_actions=[(os.POSIX_SPAWN_DUP2, out, 1)])
