@@ -71,9 +71,17 @@ fn files_of(alloc: Global, script: &str, outside: Outside<'_>) -> Result<MemoryF
     let mut files = MemoryFiles::new(alloc, outside.room, outside.files)?;
     files.add("s", script.as_bytes(), outside.bad_place)?;
     if let Some(trace) = outside.trace {
-        files.add("t", trace.as_bytes(), None)?;
+        add_trace(&mut files, trace)?;
     }
     Ok(files)
+}
+
+/// Adds the trace's file, which isn't there yet.
+fn add_trace(files: &mut MemoryFiles, trace: &str) -> Result<(), OutOfMemory> {
+    if files.content("t").is_none() {
+        files.add("t", trace.as_bytes(), None)?;
+    }
+    Ok(())
 }
 
 /// Runs these words over these files.
