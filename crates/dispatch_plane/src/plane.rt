@@ -1,8 +1,7 @@
 //! A plane from its opening to its end.
 
-ghost use Rattle.std.specs.Prelude.{◌≡◌, ◌<◌, false, [], length, replicate, IfOk};
+ghost use Rattle.std.specs.Prelude.{◌≡◌, ◌<◌, [], replicate, IfOk};
 ghost use Rattle.std.specs.List.{All};
-ghost use mathlib.Core.List.{IsPrefix};
 ghost use Rattle.xdp_state.specs.Book.{after, empty};
 ghost use Rattle.dispatch_plane.specs.Sight.{fresh, Joins, Ends};
 

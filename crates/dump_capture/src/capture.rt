@@ -1,4 +1,4 @@
-ghost use Rattle.std.specs.Prelude.{◌≡◌, ◌+◌, ◌<◌, ◌≤◌, ◌^◌, ◌++◌, [], ◌∷◌, if◌then◌else◌, is_ok, IsTrue, IfOk, OnOk, OnErr, length, vec_len};
+ghost use Rattle.std.specs.Prelude.{◌≡◌, ◌+◌, ◌<◌, ◌^◌, ◌++◌, [], ◌∷◌, if◌then◌else◌, is_ok, IsTrue, IfOk, length};
 ghost use Rattle.pcapng_text.specs.Written.{packet_size, section_bytes};
 ghost use Rattle.dump_capture.specs.Capture.{blocks_of, interface_block, keys_after, packet_block, HasPutCause, Puts, StopsBetween, WritesBehind};
 ghost use Rattle.dump_capture.specs.Key.{if_name, key_of};

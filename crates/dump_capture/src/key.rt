@@ -1,4 +1,4 @@
-ghost use Rattle.std.specs.Prelude.{◌≡◌, ◌+◌, ◌<◌, ◌^◌, IfOk, OnOk, length, position};
+ghost use Rattle.std.specs.Prelude.{◌≡◌, ◌<◌, IfOk, position};
 ghost use Rattle.dump_capture.specs.Key.{if_name, is_key_of, key_of};
 
 use crate::point::Point;

@@ -5,8 +5,6 @@ mod capture;
 mod key;
 mod point;
 mod put_end;
-#[cfg(test)]
-mod tests;
 
 pub use capture::Capture;
 pub use point::Point;

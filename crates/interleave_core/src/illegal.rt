@@ -1,4 +1,5 @@
-/// What choices break that are not legal, in the order in which the rules are asked.
+/// What choices break that are not legal. The shape is asked first, of all phases, and then the others of each packet, in this
+/// order.
 #[derive(Clone, Copy, Debug, PartialEq, Eq)]
 pub enum LegalRule {
     /// The count is less than the one before it on the same processor.

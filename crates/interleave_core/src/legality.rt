@@ -1,4 +1,4 @@
-ghost use Rattle.std.specs.Prelude.{◌≡◌, ℕ, ◌^◌, ◌<◌, ◌≤◌, ◌↔◌, List, [], length, take, slice_get, slice_index, slice_index_or, Some, None, unwrap_or, option_and_then, IsOk, if◌then◌else◌};
+ghost use Rattle.std.specs.Prelude.{◌≡◌, ℕ, ◌^◌, ◌<◌, ◌≤◌, ◌↔◌, [], length, take, slice_index, slice_index_or, Some, None, unwrap_or, option_and_then, IsOk, if◌then◌else◌};
 ghost use Rattle.std.specs.Result.{result_err};
 ghost use Rattle.interleave_core.specs.Legality.{breaks, first_illegal, illegal_from, illegal_in, illegal_on, illegal_packet, lacking_from, lacking_in, lacking_packet};
 ghost use Rattle.interleave_core.specs.Reached.{IsPlan, IsReached};

@@ -29,7 +29,8 @@ impl From<OutOfMemory> for ScheduleEnd {
 }
 
 /// Steps that give these choices, if they are legal for the plan: each packet is handed in as early as its need allows, and
-/// carried as early as its count allows. The time is that of the packets, and of the publications times the processors.
+/// carried as early as its count allows. The time is that of `is_legal`, of the packets, and of the publications times the
+/// processors.
 pub fn schedule(alloc: Global, plan: &Plan, choices: &Choices) -> Result<StepList, ScheduleEnd>
     ensures steps { (processors : ℕ) → IsPlan processors plan.now
         → IfOk result (λ steps. StepsGive processors steps plan.now choices.now) }

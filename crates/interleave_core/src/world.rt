@@ -1,9 +1,9 @@
-ghost use Rattle.std.specs.Prelude.{◌≡◌, ◌≢◌, ℕ, ◌+◌, ◌^◌, ◌<◌, ◌≤◌, Bool, true, false, List, [], ◌++◌, length, map, replicate, sum_by, position, vec_len, Some, None, IfOk, IfErr, OnOk, OnErr};
+ghost use Rattle.std.specs.Prelude.{◌≡◌, ◌≢◌, ℕ, ◌^◌, ◌<◌, ◌≤◌, true, false, length, map, replicate, sum_by, position, vec_len, Some, IfOk, IfErr, OnOk, OnErr};
 ghost use Rattle.std.specs.Option.{option_map};
 ghost use Rattle.interleave_core.specs.Event.{Answers, Happens, IsPossible, refusal};
 ghost use Rattle.interleave_core.specs.Moment.{Goes, Publishes, HandsIn, Carries, EndsPhase, beginning, changed_at, waits_at};
 ghost use Rattle.interleave_core.specs.Sound.{AreLegalFor, IsSoundMoment};
-ghost use Rattle.interleave_core.specs.Traffic.{Traffic, idle, waits, with_count, with_packet};
+ghost use Rattle.interleave_core.specs.Traffic.{idle, waits, with_count, with_packet};
 ghost use Rattle.interleave_core.specs.declared.event.StepEnd.{StepEnd};
 ghost use Rattle.xdp_state.specs.Answer.{answer, rule_fits};
 ghost use Rattle.xdp_state.specs.Book.{after, takes};

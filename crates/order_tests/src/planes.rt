@@ -1,4 +1,4 @@
-//! A plane with one port: what it sees alone, and beside a publisher in another thread.
+//! A plane with one port: what it sees alone, and in another thread beside its publisher.
 
 ghost use Rattle.std.specs.Prelude.{◌≡◌, false};
 ghost use Rattle.dispatch_plane.specs.Sight.{Joins};

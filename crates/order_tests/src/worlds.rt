@@ -1,4 +1,4 @@
-//! The worked rows: legal and illegal choices, a schedule, and a world that goes through its steps.
+//! The worked rows: legal and illegal choices, two schedules, and a world that goes through its steps.
 ghost use Rattle.std.specs.Prelude.{◌^◌, ◌<◌, sum_by, IsTrue};
 ghost use Rattle.interleave_core.specs.Event.{IsPossible};
 

@@ -1,10 +1,8 @@
-//! Tests of captures, of scripts as they are read, and of printed texts.
+//! Tests of scripts as they are read, and of printed texts.
 #![tactic(auto)]
 
 #[cfg(test)]
 mod bad_lines;
-#[cfg(test)]
-mod captures;
 #[cfg(test)]
 mod options;
 #[cfg(test)]

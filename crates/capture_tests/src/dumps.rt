@@ -2,12 +2,12 @@ ghost use Rattle.std.specs.Prelude.{◌≡◌, ◌<◌, ◌^◌, IfOk, length};
 ghost use Rattle.pcapng_text.specs.Written.{packet_size};
 ghost use Rattle.dump_capture.specs.Key.{if_name};
 
-use super::*;
-use lists::Bytes;
+use dump_capture::{Capture, Point, PutEnd};
+use lists::{Bytes, OutOfMemory};
 use pcapng_text::PacketOptions;
 use std::alloc::Global;
 use std::test::Fail;
-use xio::{MemorySink, OutOfMemory};
+use xio::MemorySink;
 
 const SECTION: &[u8; 28] =
     b"\x0a\x0d\x0d\x0a\x1c\0\0\0\x4d\x3c\x2b\x1a\x01\0\0\0\xff\xff\xff\xff\xff\xff\xff\xff\x1c\0\0\0";
@@ -28,7 +28,7 @@ fn bytes_of(alloc: Global, bytes: &[u8]) -> Result<Bytes, OutOfMemory>
     Ok(copy)
 }
 
-#[tactic(auto, using(crate::proofs::Putting::fitting), unfolding(crate::specs::Key::if_name))]
+#[tactic(auto, using(dump_capture::proofs::Putting::fitting), unfolding(dump_capture::specs::Key::if_name))]
 fn point(alloc: Global) -> Result<Point, OutOfMemory>
     ensures name { IfOk result (λ point. length (if_name point) < 2 ^ 16) }
     ensures size { IfOk result (λ point. packet_size point.kept point.options < 2 ^ 32) }

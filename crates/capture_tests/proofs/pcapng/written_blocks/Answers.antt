@@ -1,6 +1,6 @@
 use Rattle.std.proofs.Common.{arith}
 use Rattle.pcapng_text.proofs.ReadBack.{packet-fits}
-use Rattle.text_tests.proofs.captures.written_blocks.Goals as goal
+use Rattle.capture_tests.proofs.pcapng.written_blocks.Goals as goal
 
 pub packet-requires : goal.packet-requires
 packet-requires g c = packet-fits _ _ (omega arith) (omega arith)
