@@ -1,4 +1,5 @@
 pub mod Answered
+pub mod Asking
 pub mod Breaking
 pub mod Due
 pub mod Giving

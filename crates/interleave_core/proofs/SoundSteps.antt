@@ -2,10 +2,13 @@
 use Rattle.std.proofs.Common.{◌≡◌, ℕ, ◌+◌, ◌≤◌, zero, suc, Bool, true, false, ◌||◌, nat_lt, List, [], ◌∷◌, ◌++◌, length, map, replicate, fold, append_assoc, append-nil, length-append, refl, sym, ap, subst, ◌∙◌, arith}
 use Rattle.std.specs.List.{list_any}
 use Rattle.std.proofs.lemmas.Bool.{ltb-false}
+use Rattle.std.proofs.lemmas.List.{length-map, length-replicate}
 use Rattle.std.proofs.lemmas.List.Sums.{fold-append}
+use Rattle.interleave_core.proofs.Asking.{asked-carried, asked-higher, asked-idle, asked-pushed, phases-more, published-more}
+use Rattle.interleave_core.proofs.Lanes.{length-changed_at}
 use Rattle.interleave_core.specs.Moment.{Goes, Leads, Moment, Move, Publishes, HandsIn, Carries, EndsPhase, beginning, carried_by, changed_at, handed_in, phase_ended, waits_at, with_change}
-use Rattle.interleave_core.specs.Reached.{IsReached}
-use Rattle.interleave_core.specs.Sound.{AreLegalFor, AreSound, AreWithin, IsSound, IsSoundMoment, last_counts}
+use Rattle.interleave_core.specs.Reached.{AllAreNeeds, IsPlan, IsReached}
+use Rattle.interleave_core.specs.Sound.{AreLegalFor, AreSound, AreWithin, IsSound, IsSoundMoment, asked_of, last_counts, published_by}
 use Rattle.interleave_core.specs.Traffic.{Traffic, idle, waits, with_count, with_packet}
 use Rattle.xdp_state.specs.Handed.{Handed}
 use Rattle.xdp_state.specs.Legal.{AreLegalAfter, AreLegalCounts, AreLegalFrom, first_last, last_of, lasts_of, other_lasts}
@@ -126,9 +129,13 @@ legal-phase lasts (p ∷ plan) (c ∷ choices) asked counts whole legal phase =
 
 pub sound-published : (before : Moment) (change : Change) → IsSoundMoment before → IsSoundMoment (with_change change before)
 sound-published before change sound =
+    let more : length before.published ≤ length (before.published ++ change ∷ []) = omega (arith, length-append before.published (change ∷ [])) in
     record {
-      processors = sound-higher (last_counts before.choices) (length before.published) (length (before.published ++ change ∷ [])) before.processors (omega (arith, length-append before.published (change ∷ []))) sound.processors;
+      processors = sound-higher (last_counts before.choices) (length before.published) (length (before.published ++ change ∷ [])) before.processors more sound.processors;
       ended = sound.ended;
+      planned = sound.planned;
+      later = omega (arith, sound.later, more);
+      asked = asked-higher (published_by 0 before.plan) (length before.published) (length (before.published ++ change ∷ [])) (asked_of before.processors) more sound.asked;
     }
 
 pub sound-handed_in : (before : Moment) (p : ℕ) (packet : Handed) → IsSoundMoment before → IsSoundMoment (handed_in p packet before)
@@ -137,6 +144,9 @@ sound-handed_in before p packet sound =
     record {
       processors = sound-handed p h (last_counts before.choices) (length before.published) before.processors (omega arith) sound.processors;
       ended = sound.ended;
+      planned = subst (λ n. IsPlan n before.plan) (sym (length-changed_at p (with_packet h) before.processors)) sound.planned;
+      later = sound.later;
+      asked = asked-pushed p h (published_by 0 before.plan) (length before.published) before.processors sound.later refl sound.asked;
     }
 
 pub sound-carried_by : (before : Moment) (p : ℕ) → waits_at p before.processors ≡ true → IsSoundMoment before → IsSoundMoment (carried_by p before)
@@ -144,12 +154,17 @@ sound-carried_by before p there sound =
     record {
       processors = sound-carried p (last_counts before.choices) (length before.published) before.processors there sound.processors;
       ended = sound.ended;
+      planned = subst (λ n. IsPlan n before.plan) (sym (length-changed_at p (with_count (length before.published)) before.processors)) sound.planned;
+      later = sound.later;
+      asked = subst (AllAreNeeds (published_by 0 before.plan) (length before.published)) (sym (asked-carried p (length before.published) before.processors)) sound.asked;
     }
 
 pub sound-ended : (before : Moment) → list_any waits before.processors ≡ false → IsSoundMoment before → IsSoundMoment (phase_ended before)
 sound-ended before none sound =
     let published = length before.published in
-    let asked : PlanPhase = record { published = length before.published; needs = map (λ (t : Traffic). needs_of t.handed) before.processors } in
+    let asked : PlanPhase = record { published = length before.published; needs = asked_of before.processors } in
+    let whole : length asked.needs ≡ length before.processors = length-map before.processors (λ (t : Traffic). needs_of t.handed) in
+    let none_waits = length-replicate (length before.processors) idle in
     let counts : List (List ℕ) = map (λ (t : Traffic). t.counts) before.processors in
     let lasts : last_counts (before.choices ++ counts ∷ []) ≡ lasts_of (last_counts before.choices) counts = fold-append lasts_of [] before.choices (counts ∷ []) in
     record {
@@ -158,6 +173,9 @@ sound-ended before none sound =
         whole = length-append before.choices (counts ∷ []) ∙ ap (λ n. n + 1) sound.ended.whole ∙ sym (length-append before.plan (asked ∷ []));
         legal = legal-phase [] before.plan before.choices asked counts sound.ended.whole sound.ended.legal (legal-ended (last_counts before.choices) (length before.published) before.processors none sound.processors);
       };
+      planned = subst (λ n. IsPlan n (before.plan ++ asked ∷ [])) (sym none_waits) (phases-more (length before.processors) 0 before.plan asked whole sound.later sound.asked sound.planned);
+      later = omega (arith, published-more 0 before.plan asked);
+      asked = asked-idle (published_by 0 (before.plan ++ asked ∷ [])) (length before.published) (length before.processors);
     }
 
 pub sound-goes : (before : Moment) (move : Move) (later : Moment) → IsSoundMoment before → Goes before move later → IsSoundMoment later
@@ -171,16 +189,19 @@ sound-leads before [] later sound leads = subst IsSoundMoment (sym leads) sound
 sound-leads before (move ∷ moves) later sound leads =
     sound-leads leads.0 moves later (sound-goes before move leads.0 sound leads.1) leads.2
 
-all-idle : (processors : ℕ) → AreSound [] 0 (replicate processors idle)
-all-idle zero = tt
-all-idle (suc processors) =
+sound-all_idle : (processors : ℕ) → AreSound [] 0 (replicate processors idle)
+sound-all_idle zero = tt
+sound-all_idle (suc processors) =
     let none : 0 ≤ 0 = omega arith in
-    (record { before = none; counts = tt; packets = refl; needs = tt }, all-idle processors)
+    (record { before = none; counts = tt; packets = refl; needs = tt }, sound-all_idle processors)
 
 pub sound-beginning : (processors : ℕ) → IsSoundMoment (beginning processors)
 sound-beginning processors = record {
-  processors = all-idle processors;
+  processors = sound-all_idle processors;
   ended = record { whole = refl; legal = tt };
+  planned = tt;
+  later = omega arith;
+  asked = asked-idle 0 0 processors;
 }
 
 pub legal-reached : (processors : ℕ) (plan : List PlanPhase) (choices : List (List (List ℕ))) → IsReached processors plan choices → AreLegalFor plan choices

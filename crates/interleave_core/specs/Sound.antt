@@ -1,6 +1,7 @@
 -- What holds at every moment of a run.
-use Rattle.std.specs.Prelude.{◌≡◌, ℕ, ◌≤◌, List, [], ◌∷◌, ◌++◌, length, fold, ⊤}
+use Rattle.std.specs.Prelude.{◌≡◌, ℕ, ◌≤◌, List, [], ◌∷◌, ◌++◌, length, map, fold, ⊤}
 use Rattle.interleave_core.specs.Moment.{Moment}
+use Rattle.interleave_core.specs.Reached.{AllAreNeeds, IsPlan}
 use Rattle.interleave_core.specs.Traffic.{Traffic}
 use Rattle.xdp_state.specs.Legal.{AreLegal, AreLegalCounts, first_last, lasts_of, other_lasts}
 use Rattle.xdp_state.specs.Work.{needs_of}
@@ -36,7 +37,21 @@ AreSound lasts published [] = ⊤
 AreSound lasts published (traffic ∷ more) =
     IsSound (first_last lasts) published traffic × AreSound (other_lasts lasts) published more
 
+-- the publications at the end of the last phase, where those before the first are given
+abbrev pub published_by : ℕ → List PlanPhase → ℕ
+published_by first [] = first
+published_by first (phase ∷ phases) = published_by phase.published phases
+
+-- by processor the needs of the packets of the phase under way
+abbrev pub asked_of : List Traffic → List (List ℕ)
+asked_of processors = map (λ traffic. needs_of traffic.handed) processors
+
 pub record IsSoundMoment (moment : Moment) : Type 0 where
   pub processors : AreSound (last_counts moment.choices) (length moment.published) moment.processors
   -- the counts of the phases that have ended are legal
   pub ended : AreLegalFor moment.plan moment.choices
+  -- they are those of a plan
+  pub planned : IsPlan (length moment.processors) moment.plan
+  -- the needs since then never fall, and are between the publications at the last phase's end and those so far
+  pub later : published_by 0 moment.plan ≤ length moment.published
+  pub asked : AllAreNeeds (published_by 0 moment.plan) (length moment.published) (asked_of moment.processors)

@@ -2,6 +2,7 @@ ghost use Rattle.std.specs.Prelude.{◌≡◌, ◌≢◌, ℕ, ◌^◌, ◌<◌,
 ghost use Rattle.std.specs.Option.{option_map};
 ghost use Rattle.interleave_core.specs.Event.{Answers, Happens, IsPossible, refusal};
 ghost use Rattle.interleave_core.specs.Moment.{Goes, Publishes, HandsIn, Carries, EndsPhase, beginning, changed_at, waits_at};
+ghost use Rattle.interleave_core.specs.Reached.{IsPlan};
 ghost use Rattle.interleave_core.specs.Sound.{AreLegalFor, IsSoundMoment};
 ghost use Rattle.interleave_core.specs.Traffic.{idle, waits, with_count, with_packet};
 ghost use Rattle.interleave_core.specs.declared.event.StepEnd.{StepEnd};
@@ -87,9 +88,10 @@ impl World {
         self.choices.as_slice()
     }
 
-    /// What the phases that have ended ask of the counts.
+    /// What the phases that have ended ask of the counts. It is a plan as `schedule` takes it.
     pub fn plan(&self) -> &[PlanPhase]
-        ensures { result.now ≡ self.now.plan }
+        ensures plan { result.now ≡ self.now.plan }
+        ensures planned { IsPlan (length self.now.processors) result.now }
     {
         self.plan.as_slice()
     }
