@@ -1,5 +1,5 @@
 -- Each step keeps that needs are those of a plan.
-use Rattle.std.proofs.Common.{◌≡◌, ℕ, ◌≤◌, zero, suc, List, [], ◌∷◌, ◌++◌, length, map, replicate, refl, ap, arith}
+use Rattle.std.proofs.Common.{◌≡◌, ℕ, ◌≤◌, zero, suc, List, [], ◌∷◌, ◌++◌, length, replicate, refl, ap, arith}
 use Rattle.interleave_core.specs.Moment.{changed_at}
 use Rattle.interleave_core.specs.Reached.{AllAreNeeds, AreNeeds, ArePhases}
 use Rattle.interleave_core.specs.Sound.{asked_of, published_by}
