@@ -1,7 +1,7 @@
 #!/usr/bin/env python3
 """Checks the pages: that links and anchors lead somewhere, that named files are there, that the README's map and the sections of
 CONTRACTS have the crates of crates.txt in order, that the README is short and shows what the examples have stored, and that the
-manual page renders without a warning, where groff is. It stands outside the gate, and ends with status 1 where something is amiss."""
+manual page renders without a warning, where groff or mandoc is. It stands outside the gate, and ends with status 1 where something is amiss."""
 
 import os
 import re
@@ -73,12 +73,14 @@ def check_readme():
 
 
 def check_manual():
-    if not shutil.which("groff"):
-        print("no groff here: the manual page isn't rendered")
-        return
-    said = subprocess.run(["groff", "-mdoc", "-ww", "-Tutf8", f"{TOP}/docs/xdptool.1"], capture_output=True, text=True)
-    if said.stderr or said.returncode:
-        amiss.append(f"docs/xdptool.1: {said.stderr.strip()}")
+    tools = [["groff", "-mdoc", "-ww", "-Tutf8"], ["mandoc", "-T", "lint", "-W", "warning"]]
+    there = [words for words in tools if shutil.which(words[0])]
+    if not there:
+        print("neither groff nor mandoc is here: the manual page isn't looked at")
+    for words in there:
+        said = subprocess.run([*words, f"{TOP}/docs/xdptool.1"], capture_output=True, text=True)
+        if said.stderr or said.returncode:
+            amiss.append(f"docs/xdptool.1, by {words[0]}: {(said.stderr or said.stdout).strip()}")
 
 
 for page in PAGES:
