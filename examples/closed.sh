@@ -3,7 +3,7 @@
 # usage: examples/closed.sh [PROGRAM]
 here=$(dirname "$0")
 program=${1:-$here/../crates/xdptool/out/xdptool}
-[ -x "$program" ] || { echo "$program isn't there: build it by 'make test'" >&2; exit 2; }
+[ -x "$program" ] || { echo "$program isn't there: build it by 'make program'" >&2; exit 2; }
 script=$here/change-under-traffic.xdp
 folder=$(mktemp -d)
 trap 'rm -rf "$folder"' EXIT
