@@ -1,0 +1,11 @@
+pub mod Counts
+pub mod Ranges
+pub mod Readings
+pub mod Items
+pub mod Ordering
+pub mod ProgramSymbols
+pub mod ConstantMaps
+pub mod Fixing
+pub mod Marks
+pub mod Linked
+pub mod OneAnswer
