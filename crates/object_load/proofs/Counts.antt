@@ -1,5 +1,5 @@
 -- How many sections and symbols there are.
-use Rattle.std.proofs.Common.{◌≡◌, ℕ, ◌<◌, List, length, ap, subst, sym}
+use Rattle.std.proofs.Common.{◌≡◌, ℕ, List, length}
 use Rattle.std.proofs.lemmas.List.FromFn.{length-map-range_with_len}
 use Rattle.elf_objects.specs.Object.{sections, symbols}
 use Rattle.elf_objects.specs.Section.{section, section_count}

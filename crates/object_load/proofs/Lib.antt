@@ -4,6 +4,8 @@ pub mod Readings
 pub mod Items
 pub mod Ordering
 pub mod ProgramSymbols
+pub mod Drafting
+pub mod Refusals
 pub mod ConstantMaps
 pub mod Fixing
 pub mod Marks

@@ -4,8 +4,6 @@ use Rattle.std.proofs.lemmas.Bool.Decides.{nat_tests}
 use Rattle.std.specs.List.{slice_get, slice_set}
 use Rattle.std.specs.Option.{ok_or, option_and_then, option_map, option_map_or}
 use Rattle.bpf_insn.specs.declared.insn.Insn.{Insn}
-use Rattle.bpf_insn.specs.declared.operation.Operation.TheVariants.{Call}
-use Rattle.bpf_insn.specs.Operation.{opcode_of}
 use Rattle.bpf_insn.specs.Form.{wide_load}
 use Rattle.bpf_insn.specs.Code.{Continues, IsCode, TakesAnyImm}
 use Rattle.bpf_insn.proofs.Immediates.{any_imm}
@@ -15,8 +13,13 @@ use Rattle.elf_objects.specs.Symbol.{symbol}
 use Rattle.map_store.specs.Initial.{AreMakeable}
 use Rattle.run_config.specs.declared.named_map.NamedMap.{NamedMap}
 use Rattle.run_config.specs.Maps.{specs_of}
-use Rattle.object_load.specs.Linking.{address, changed, changed_by, distance, first_stray, fixed, fixed_all, immediate, is_local_call, is_wide_load, linked, own_fixes, program_of, program_with, refuse_at, text_fixes, with_imm, Fix}
-use Rattle.object_load.specs.Reading.{and_then}
+use Rattle.object_load.specs.declared.pieces.Piece.TheVariants.{Own, Text}
+use Rattle.object_load.specs.Sections.{text}
+use Rattle.object_load.specs.Linking.{fixes_in, relocs_for, text_relocs, address, changed, changed_by, distance, first_stray, fixed, fixed_all, immediate, is_local_call, is_wide_load, linked, own_fixes, program_of, program_with, refuse_at, text_fixes, with_imm, Fix}
+use Rattle.elf_objects.specs.Object.{section_name, symbol_name}
+use Rattle.object_load.specs.declared.refusal.SlotEnd.{SlotEnd}
+use Rattle.object_load.specs.declared.refusal.SlotEnd.TheVariants as slots
+use Rattle.object_load.specs.Reading.{and_then, AnswersAt}
 use Rattle.object_load.specs.declared.drafts.Draft.{Draft}
 use Rattle.object_load.specs.declared.program.Program.{Program}
 use Rattle.object_load.specs.Code.{IsReady}
@@ -36,7 +39,7 @@ half_behind true (first ∷ rest) zero insn here is code =
 half_behind false (first ∷ []) zero insn here is code =
     let same : first ≡ insn = cc in
     let wide : (first.opcode == 24) ≡ true = ap (λ (i : Insn). i.opcode == 24) same ∙ ap (λ n. n == 24) is in
-    let end : (first.opcode == 24) ≡ false = code.2 in
+    let behind : Continues true [] = subst (λ b. Continues b []) wide code.2 in
     absurd (cc)
 half_behind false (first ∷ next ∷ rest) zero insn here is code =
     let same : first ≡ insn = cc in
@@ -142,31 +145,52 @@ linked-code file maps s insns code is can =
     let same = not_refused (first_stray (own_fixes file s) second.0 own) second.0 code second.2 in
     subst IsCode same (fixed_all-code file maps own first.0 (text_fixes file s) second.0 second.1 (fixed_all-code file maps own insns (own_fixes file s) first.0 first.1 can))
 
--- the steps of linking
-pub refused_own : (file : List ℕ) (maps : List NamedMap) (s : Symbol) (insns : List Insn) (slot : ℕ) → fixed_all file maps (s.size / 8) insns (own_fixes file s) ≡ Err slot → linked file maps s insns ≡ Err slot
-unfolding linked
-refused_own file maps s insns slot is = ap (λ (r : Result (List Insn) ℕ). and_then r (λ changed. and_then (fixed_all file maps (s.size / 8) changed (text_fixes file s)) (λ code. refuse_at (first_stray (own_fixes file s) code (s.size / 8)) code))) is
+-- the fixes of a program, as the code has their relocations
+own_by : (file : List ℕ) (s : Symbol) (relocs : List Reloc) → relocs ≡ relocs_for file s.section → fixes_in (Own s.value s.size) relocs ≡ own_fixes file s
+unfolding own_fixes
+own_by file s relocs is = ap (fixes_in (Own s.value s.size)) is
 
-after_own : (file : List ℕ) (maps : List NamedMap) (s : Symbol) (insns changed : List Insn) → fixed_all file maps (s.size / 8) insns (own_fixes file s) ≡ Ok changed → linked file maps s insns ≡ and_then (fixed_all file maps (s.size / 8) changed (text_fixes file s)) (λ code. refuse_at (first_stray (own_fixes file s) code (s.size / 8)) code)
-unfolding linked
-after_own file maps s insns changed is = ap (λ (r : Result (List Insn) ℕ). and_then r (λ changed. and_then (fixed_all file maps (s.size / 8) changed (text_fixes file s)) (λ code. refuse_at (first_stray (own_fixes file s) code (s.size / 8)) code))) is
+text_by : (file : List ℕ) (s : Symbol) (relocs : List Reloc) (size : ℕ) → relocs ≡ text_relocs file → size ≡ length (text file) → fixes_in (Text s.size size) relocs ≡ text_fixes file s
+unfolding text_fixes
+text_by file s relocs size is long = ap (λ (n : ℕ). fixes_in (Text s.size n) relocs) long ∙ ap (fixes_in (Text s.size (length (text file)))) is
 
-pub refused_text : (file : List ℕ) (maps : List NamedMap) (s : Symbol) (insns changed : List Insn) (slot : ℕ) → fixed_all file maps (s.size / 8) insns (own_fixes file s) ≡ Ok changed → fixed_all file maps (s.size / 8) changed (text_fixes file s) ≡ Err slot → linked file maps s insns ≡ Err slot
-refused_text file maps s insns changed slot own is = after_own file maps s insns changed own ∙ ap (λ (r : Result (List Insn) ℕ). and_then r (λ code. refuse_at (first_stray (own_fixes file s) code (s.size / 8)) code)) is
+-- the steps of linking, with the relocations that the code has
+module _ (file : List ℕ) (maps : List NamedMap) (s : Symbol) (insns : List Insn) (relocs : List Reloc) (is : relocs ≡ relocs_for file s.section) where
+  after_own : (first : Result (List Insn) ℕ) → first ≡ fixed_all file maps (s.size / 8) insns (fixes_in (Own s.value s.size) relocs) → linked file maps s insns ≡ and_then first (λ changed. and_then (fixed_all file maps (s.size / 8) changed (text_fixes file s)) (λ code. refuse_at (first_stray (own_fixes file s) code (s.size / 8)) code))
+  unfolding linked
+  after_own first own =
+      ap (λ (r : Result (List Insn) ℕ). and_then r (λ changed. and_then (fixed_all file maps (s.size / 8) changed (text_fixes file s)) (λ code. refuse_at (first_stray (own_fixes file s) code (s.size / 8)) code)))
+      (sym (own ∙ ap (fixed_all file maps (s.size / 8) insns) (own_by file s relocs is)))
 
-pub linked_by : (file : List ℕ) (maps : List NamedMap) (s : Symbol) (insns changed code : List Insn) (stray : Option ℕ) → fixed_all file maps (s.size / 8) insns (own_fixes file s) ≡ Ok changed → fixed_all file maps (s.size / 8) changed (text_fixes file s) ≡ Ok code → stray ≡ first_stray (own_fixes file s) code (s.size / 8) → linked file maps s insns ≡ refuse_at stray code
-linked_by file maps s insns changed code stray own text is =
-    after_own file maps s insns changed own ∙ ap (λ (r : Result (List Insn) ℕ). and_then r (λ code. refuse_at (first_stray (own_fixes file s) code (s.size / 8)) code)) text
-    ∙ ap (λ (o : Option ℕ). refuse_at o code) (sym is)
+  pub refused_own : (slot : ℕ) → Err slot ≡ fixed_all file maps (s.size / 8) insns (fixes_in (Own s.value s.size) relocs) → Err slot ≡ linked file maps s insns
+  refused_own slot own = sym (after_own (Err slot) own)
 
--- the program of a linked code
-pub program_refused : (file : List ℕ) (maps : List NamedMap) (draft : Draft) (slot : ℕ) → linked file maps (symbol file draft.function.symbol) draft.insns ≡ Err slot → program_of file maps draft ≡ Err slot
+  module _ (changed : List Insn) (others : List Reloc) (size : ℕ) (own : Ok changed ≡ fixed_all file maps (s.size / 8) insns (fixes_in (Own s.value s.size) relocs)) (are : others ≡ text_relocs file) (long : size ≡ length (text file)) where
+    after_text : (second : Result (List Insn) ℕ) → second ≡ fixed_all file maps (s.size / 8) changed (fixes_in (Text s.size size) others) → linked file maps s insns ≡ and_then second (λ code. refuse_at (first_stray (own_fixes file s) code (s.size / 8)) code)
+    after_text second made =
+        after_own (Ok changed) own
+        ∙ ap (λ (r : Result (List Insn) ℕ). and_then r (λ code. refuse_at (first_stray (own_fixes file s) code (s.size / 8)) code))
+        (sym (made ∙ ap (fixed_all file maps (s.size / 8) changed) (text_by file s others size are long)))
+
+    pub refused_text : (slot : ℕ) → Err slot ≡ fixed_all file maps (s.size / 8) changed (fixes_in (Text s.size size) others) → Err slot ≡ linked file maps s insns
+    refused_text slot made = sym (after_text (Err slot) made)
+
+    pub linked_by : (code : List Insn) (stray : Option ℕ) → Ok code ≡ fixed_all file maps (s.size / 8) changed (fixes_in (Text s.size size) others) → stray ≡ first_stray (fixes_in (Own s.value s.size) relocs) code (s.size / 8) → refuse_at stray code ≡ linked file maps s insns
+    linked_by code stray made none =
+        ap (λ (o : Option ℕ). refuse_at o code) (none ∙ ap (λ fixes. first_stray fixes code (s.size / 8)) (own_by file s relocs is)) ∙ sym (after_text (Ok code) made)
+
+-- the program of a linked code, or none
+pub program_by : (file : List ℕ) (maps : List NamedMap) (draft : Draft) (code : Result (List Insn) ℕ) → code ≡ linked file maps (symbol file draft.function.symbol) draft.insns → and_then code (λ insns. Ok (program_with file maps draft insns)) ≡ program_of file maps draft
 unfolding program_of
-program_refused file maps draft slot is = ap (λ (r : Result (List Insn) ℕ). and_then r (λ code. Ok (program_with file maps draft code))) is
+program_by file maps draft code is = ap (λ (r : Result (List Insn) ℕ). and_then r (λ insns. Ok (program_with file maps draft insns))) is
 
-pub program_made : (file : List ℕ) (maps : List NamedMap) (draft : Draft) (code : List Insn) → linked file maps (symbol file draft.function.symbol) draft.insns ≡ Ok code → program_of file maps draft ≡ Ok (program_with file maps draft code)
-unfolding program_of
-program_made file maps draft code is = ap (λ (r : Result (List Insn) ℕ). and_then r (λ code. Ok (program_with file maps draft code))) is
+pub program_ends : (file : List ℕ) (maps : List NamedMap) (draft : Draft) (end : SlotEnd) → AnswersAt (λ answer. answer ≡ linked file maps (symbol file draft.function.symbol) draft.insns) (Err end) → AnswersAt (λ answer. answer ≡ program_of file maps draft) (Err end)
+program_ends file maps draft (slots.Bad slot) is = program_by file maps draft (Err slot) is
+program_ends file maps draft slots.OutOfMemory is = tt
+
+pub program_made : (file : List ℕ) (maps : List NamedMap) (draft : Draft) (name section : List ℕ) (insns : List Insn) (count : ℕ) (copied : List NamedMap) → Ok insns ≡ linked file maps (symbol file draft.function.symbol) draft.insns → name ≡ symbol_name file draft.function.symbol → section ≡ section_name file (symbol file draft.function.symbol).section → count ≡ length maps → copied ≡ maps
+    → Ok (record { name = name; section = section; config = draft.function.config; code = record { insns = insns; maps = count }; maps = copied }) ≡ program_of file maps draft
+program_made file maps draft name section insns count copied is named in_section counted same = rw (named, in_section, counted, same) (program_by file maps draft (Ok insns) is)
 
 -- a program that was made can be run
 pub runnable_from : (file : List ℕ) (maps : List NamedMap) (draft : Draft) (program : Program) → Ok program ≡ program_of file maps draft → IsReady file draft → AreMakeable (specs_of maps) → IsRunnable program

@@ -1,5 +1,5 @@
 -- The bytes of an object have one answer.
-use Rattle.std.proofs.Common.{◌≡◌, ℕ, ◌*◌, ◌<◌, ◌≤◌, List, length, take, Option, Some, None, Result, Ok, Err, refl, sym, ap, ◌∙◌, subst, inl, inr, arith}
+use Rattle.std.proofs.Common.{◌≡◌, ℕ, ◌<◌, List, take, Option, Some, None, Result, Ok, Err, refl, sym, ap, ◌∙◌, subst, inl, inr, arith}
 use Rattle.std.specs.Prelude.{codes}
 use Rattle.std.specs.List.{slice_get}
 use Rattle.std.proofs.lemmas.Bool.{cases_eq, cases_lt}
@@ -28,17 +28,17 @@ use Rattle.object_load.specs.declared.refusal.LoadEnd.{LoadEnd}
 use Rattle.object_load.specs.declared.refusal.LoadEnd.TheVariants.{Refused, OutOfMemory}
 use Rattle.object_load.specs.Reading.{Answers, Each, Gives, Is, Then, every, goes_on, refused, stops}
 use Rattle.object_load.specs.Symbols.{object_of, programs_in}
-use Rattle.object_load.specs.Types.{config_refusal, types_in, AreFunctions, HasConfig, IsFunction}
+use Rattle.object_load.specs.Types.{config_refusal, types_in, HasConfig, IsFunction}
 use Rattle.object_load.specs.Maps.{with_constants, HasMaps, HasVariables, broken, nothing, read, untyped}
 use Rattle.object_load.specs.Sections.{constant_sections}
-use Rattle.object_load.specs.Code.{code_bytes, AreDrafts, HasInsns, IsDraft, decoded, too_long}
+use Rattle.object_load.specs.Code.{code_bytes, HasInsns, IsDraft, decoded, too_long}
 use Rattle.object_load.specs.Linking.{program_of}
 use Rattle.object_load.specs.Load.{Loads, LoadsFunctions, LoadsMapped, LoadsObject, LoadsSymbols, LoadsTyped}
 
-then-unique : {A B : Type 0} {first_of : Result A LoadRefusal → Type 0} {next : A → Result B LoadRefusal → Type 0}
-    → ((one other : Result A LoadRefusal) → first_of one → first_of other → one ≡ other)
+then-unique : {A B : Type 0} {before : Result A LoadRefusal → Type 0} {next : A → Result B LoadRefusal → Type 0}
+    → ((one other : Result A LoadRefusal) → before one → before other → one ≡ other)
     → ((value : A) (one other : Result B LoadRefusal) → next value one → next value other → one ≡ other)
-    → (one other : Result B LoadRefusal) → Then first_of next one → Then first_of next other → one ≡ other
+    → (one other : Result B LoadRefusal) → Then before next one → Then before next other → one ≡ other
 then-unique single singles _ _ (stops {refusal = r} h) (stops {refusal = s} k) = let e = single (Err r) (Err s) h k in cc
 then-unique single singles _ _ (stops {refusal = r} h) (goes_on {value = v} k n) = let e = single (Err r) (Ok v) h k in absurd (cc)
 then-unique single singles _ _ (goes_on {value = v} h m) (stops {refusal = s} k) = let e = single (Ok v) (Err s) h k in absurd (cc)
@@ -158,7 +158,7 @@ pub loads-unique : (file : List ℕ) (one other : Result (List Program) LoadRefu
 loads-unique file = then-unique (is-unique (object_of file)) object-unique
 
 -- a call that answers a reading with one answer gave each answer of it
-pub gives_only : {A : Type 0} {reading : Result A LoadRefusal → Type 0} → ((one other : Result A LoadRefusal) → reading one → reading other → one ≡ other) → (result : Result A LoadEnd) → Answers reading result → (answer : Result A LoadRefusal) → reading answer → Gives result answer
-gives_only single (Ok value) answers answer says = single answer (Ok value) says answers
-gives_only single (Err (Refused refusal)) answers answer says = single answer (Err refusal) says answers
-gives_only single (Err OutOfMemory) answers answer says = tt
+pub gives_only : {A : Type 0} (reading : Result A LoadRefusal → Type 0) → ((one other : Result A LoadRefusal) → reading one → reading other → one ≡ other) → (result : Result A LoadEnd) → Answers reading result → (answer : Result A LoadRefusal) → reading answer → Gives result answer
+gives_only reading single (Ok value) answers answer says = single answer (Ok value) says answers
+gives_only reading single (Err (Refused refusal)) answers answer says = single answer (Err refusal) says answers
+gives_only reading single (Err OutOfMemory) answers answer says = tt

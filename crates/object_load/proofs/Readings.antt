@@ -1,6 +1,5 @@
 -- How calls that answer readings follow one another.
-use Rattle.std.proofs.Common.{◌≡◌, ℕ, List, [], ◌∷◌, ◌++◌, take, slice_get, Option, Some, None, Result, Ok, Err}
-use Rattle.run_config.specs.Values.{Paired}
+use Rattle.std.proofs.Common.{Result, Ok, Err}
 use Rattle.object_load.specs.declared.refusal.LoadRefusal.{LoadRefusal}
 use Rattle.object_load.specs.declared.refusal.LoadEnd.{LoadEnd}
 use Rattle.object_load.specs.declared.refusal.LoadEnd.TheVariants.{Refused, OutOfMemory}

@@ -1,5 +1,5 @@
 -- What relocations make of a code (psABI of BPF: `Documentation/bpf/llvm_reloc.rst` of the kernel).
-use Rattle.std.specs.Prelude.{ℕ, ℤ, pos, ◌+◌, ◌-◌, ◌*◌, ◌/◌, ◌%◌, ◌+ℤ◌, ◌-ℤ◌, int_le, int_lt, Bool, true, false, ◌==◌, ◌&&◌, not, nat_le, nat_lt, min, List, [], ◌∷◌, ◌++◌, length, codes, find, position, slice_get, slice_set, filter_map, flat_map, Option, Some, None, ok_or, option_map, option_and_then, Result, Ok, Err, if◌then◌else◌}
+use Rattle.std.specs.Prelude.{ℕ, ℤ, pos, ◌+◌, ◌-◌, ◌*◌, ◌/◌, ◌%◌, ◌+ℤ◌, ◌-ℤ◌, int_le, int_lt, Bool, false, ◌==◌, ◌&&◌, not, nat_le, nat_lt, min, List, [], ◌∷◌, length, codes, find, position, slice_get, slice_set, filter_map, flat_map, Option, Some, None, ok_or, option_map, option_and_then, Result, Ok, Err, if◌then◌else◌}
 use Rattle.std.specs.List.{list_any, range_with_len}
 use Rattle.std.specs.Option.{option_map_or}
 use Rattle.std.specs.Str.{bytes_eq}
@@ -18,7 +18,6 @@ use Rattle.object_load.specs.declared.drafts.Draft.{Draft}
 use Rattle.object_load.specs.declared.pieces.Piece.{Piece}
 use Rattle.object_load.specs.declared.pieces.Piece.TheVariants.{Own, Text}
 use Rattle.object_load.specs.declared.program.Program.{Program}
-use Rattle.object_load.specs.declared.refusal.LoadRefusal.{LoadRefusal}
 use Rattle.object_load.specs.Reading.{and_then}
 use Rattle.object_load.specs.Sections.{has_name, constant_sections, text, text_section}
 
@@ -46,8 +45,11 @@ pub record Fix : Type 0 where
   pub place : ℕ
   pub reloc : Reloc
 
+abbrev pub fix_at : Reloc → ℕ → Fix
+fix_at reloc place = record { place = place; reloc = reloc }
+
 abbrev pub fix_in : Piece → Reloc → Option Fix
-fix_in piece reloc = option_map (λ place. record { place = place; reloc = reloc }) (place_in piece reloc.offset)
+fix_in piece reloc = option_map (fix_at reloc) (place_in piece reloc.offset)
 
 unfoldable pub fixes_in : Piece → List Reloc → List Fix
 fixes_in piece relocs = filter_map (fix_in piece) relocs
@@ -161,12 +163,12 @@ leaves own slot insn =
     let target = (pos slot +ℤ insn.imm) +ℤ pos 1 in
     is_local_call insn && not (int_le (pos 0) target && int_lt target (pos own))
 
--- a call out of the function that no relocation leads somewhere
-unfoldable pub is_stray : List Fix → List Insn → ℕ → ℕ → Bool
-is_stray fixes insns own slot = not (is_fixed fixes slot) && option_map_or (leaves own slot) (slice_get insns slot) false
+-- a call out of the function in a slot that no relocation changes
+unfoldable pub is_stray : Bool → List Insn → ℕ → ℕ → Bool
+is_stray fixed insns own slot = not fixed && option_map_or (leaves own slot) (slice_get insns slot) false
 
 unfoldable pub first_stray : List Fix → List Insn → ℕ → Option ℕ
-first_stray fixes insns own = find (is_stray fixes insns own) (range_with_len 0 own)
+first_stray fixes insns own = find (λ slot. is_stray (is_fixed fixes slot) insns own slot) (range_with_len 0 own)
 
 abbrev pub refuse_at : Option ℕ → List Insn → Result (List Insn) ℕ
 refuse_at None code = Ok code

@@ -1,10 +1,8 @@
 //! The numbers that take the places of symbols in code.
 
-ghost use Rattle.std.specs.Prelude.{◌≡◌, ◌<◌, ◌≤◌, ◌+◌, ◌*◌, ◌/◌, ℤ, pos, ◌+ℤ◌, All, length, position, nat_eq, ◌==◌};
+ghost use Rattle.std.specs.Prelude.{◌≡◌, ◌<◌, ◌≤◌, ◌+◌, ◌/◌, ◌==◌, ℕ, List, length, position};
 ghost use Rattle.std.specs.Str.{bytes_eq};
-ghost use Rattle.bpf_insn.specs.declared.insn.Insn.{Insn};
-ghost use Rattle.elf_objects.specs.Object.{sections, symbols};
-ghost use Rattle.elf_objects.specs.Symbol.{symbol};
+ghost use Rattle.elf_objects.specs.Object.{symbols};
 ghost use Rattle.map_store.specs.Initial.{AreMakeable};
 ghost use Rattle.run_config.specs.Maps.{specs_of};
 ghost use Rattle.object_load.specs.Layout.{IsLayout};

@@ -1,8 +1,8 @@
 //! The code of each program, before it is linked.
 
-ghost use Rattle.std.specs.Prelude.{◌≡◌, ◌<◌, ◌≤◌, ◌*◌, ◌%◌, All, drop, length, take, IfOk};
+ghost use Rattle.std.specs.Prelude.{◌≡◌, ◌<◌, ◌≤◌, ◌+◌, ◌*◌, ◌%◌, All, length, IfOk};
 ghost use Rattle.bpf_insn.specs.Code.{IsCode};
-ghost use Rattle.elf_objects.specs.Object.{sections};
+ghost use Rattle.elf_objects.specs.Object.{content, sections};
 ghost use Rattle.elf_objects.specs.Symbol as symbols;
 ghost use Rattle.object_load.specs.Reading.{Answers, AnswersAt};
 ghost use Rattle.object_load.specs.Sections as of_object;
@@ -36,20 +36,6 @@ const MOST_SLOTS: u32 = 65_536;
 /// The bytes of a code of so many slots.
 const MOST_BYTES: usize = 8 * MOST_SLOTS as usize;
 
-/// So many bytes from one on, as far as there are some.
-fn part(bytes: &[u8], first: u64, size: u64) -> &[u8]
-    ensures { result.now ≡ take size (drop first bytes.now) }
-{
-    if first >= bytes.len() as u64 {
-        return &[];
-    }
-    let rest = &bytes[first as usize..];
-    if size >= rest.len() as u64 {
-        return rest;
-    }
-    &rest[..size as usize]
-}
-
 /// The symbol of a program.
 #[tactic(auto, using(crate::proofs::Counts::symbols_counted))]
 pub(crate) fn program_symbol(object: &Object<'_>, index: u32) -> Symbol
@@ -57,23 +43,21 @@ pub(crate) fn program_symbol(object: &Object<'_>, index: u32) -> Symbol
     ensures symbol { result ≡ symbols.symbol object.now index }
     ensures section { result.section < length (sections object.now) }
     ensures slots { result.size % 8 ≡ 0 }
-    ensures value { result.value % 8 ≡ 0 }
-    ensures size { length (code.function_bytes object.now result) ≡ result.size }
+    ensures within { result.value + result.size ≤ length (content object.now result.section) }
 {
     object.symbol(index)
 }
 
-/// The bytes of a function.
+/// The bytes of a function, which are in its section.
 #[tactic(auto, unfolding(crate::specs::Code::function_bytes))]
 fn function_bytes<'a>(object: &'a Object<'_>, symbol: Symbol) -> &'a [u8]
-    requires { symbol.section < length (sections object.now) }
+    requires section { symbol.section < length (sections object.now) }
+    requires within { symbol.value + symbol.size ≤ length (content object.now symbol.section) }
     ensures { result.now ≡ code.function_bytes object.now symbol }
 {
-    part(
-        object.content(u32::from(symbol.section)),
-        symbol.value,
-        symbol.size,
-    )
+    let bytes = object.content(u32::from(symbol.section));
+    let first = symbol.value as usize;
+    &bytes[first..first + symbol.size as usize]
 }
 
 /// The bytes of a program's code: those of its function, and those of `.text`.
@@ -85,6 +69,7 @@ fn code_bytes(
     text: &[u8],
 ) -> Result<Bytes, OutOfMemory>
     requires section { symbol.section < length (sections object.now) }
+    requires within { symbol.value + symbol.size ≤ length (content object.now symbol.section) }
     requires text { text.now ≡ of_object.text object.now }
     ensures { IfOk result (λ bytes. bytes ≡ code.code_bytes object.now symbol) }
 {

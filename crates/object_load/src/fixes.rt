@@ -1,6 +1,6 @@
 //! Relocations applied to a code.
 
-ghost use Rattle.std.specs.Prelude.{◌≡◌, ◌<◌, ◌≤◌, ◌+◌, ◌/◌, ℤ, pos, All, length, slice_get, Some};
+ghost use Rattle.std.specs.Prelude.{◌≡◌, ◌<◌, ◌≤◌, ◌+◌, ◌*◌, ◌/◌, All, length};
 ghost use Rattle.elf_objects.specs.Object.{symbols};
 ghost use Rattle.map_store.specs.Initial.{AreMakeable};
 ghost use Rattle.run_config.specs.Maps.{specs_of};
@@ -56,7 +56,7 @@ fn fix(
     requires own { own + layout.now.text_size / 8 ≤ 65536 }
     requires place { place ≤ 8 * 65536 }
     ensures { of_code.outcome result insns.new
-        ≡ of_code.fixed object.now maps.now own insns.old (record { place = place; reloc = reloc.now }) }
+        ≡ of_code.fixed object.now maps.now own insns.old (of_code.fix_at reloc.now place) }
 {
     let slot = (place / 8) as u32;
     if place % 8 != 0 || slot >= insns.len() {

@@ -58,9 +58,7 @@ fn text_relocs(alloc: Global, object: &Object<'_>) -> Result<List<Reloc>, OutOfM
 
 impl Layout {
     pub(crate) fn read(alloc: Global, object: &Object<'_>) -> Result<Layout, OutOfMemory>
-        ensures layout { IfOk result (IsLayout object.now) }
-        ensures constants { IfOk result (λ layout. All (λ number. number < length (sections object.now)) layout.constants) }
-        ensures relocs { IfOk result (λ layout. All (λ reloc. reloc.symbol < length (symbols object.now)) layout.text_relocs) }
+        ensures { IfOk result (IsLayout object.now) }
     {
         Ok(Layout {
             constants: constant_sections(alloc, object)?,

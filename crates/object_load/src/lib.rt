@@ -21,6 +21,3 @@ mod types;
 pub use load::programs_of;
 pub use program::{Program, ProgramList};
 pub use refusal::{LoadEnd, LoadRefusal};
-
-#[cfg(test)]
-mod tests;

@@ -1,7 +1,6 @@
 //! Programs whose code is linked.
 
-ghost use Rattle.std.specs.Prelude.{◌≡◌, ◌<◌, ◌≤◌, ◌+◌, ◌/◌, ◌*◌, All, length, IfOk};
-ghost use Rattle.elf_objects.specs.Object.{symbols};
+ghost use Rattle.std.specs.Prelude.{◌≡◌, ◌≤◌, ◌+◌, ◌*◌, ◌%◌, All, length, IfOk};
 ghost use Rattle.map_store.specs.Initial.{AreMakeable};
 ghost use Rattle.run_config.specs.Maps.{specs_of};
 ghost use Rattle.object_load.specs.Code.{IsReady};
@@ -10,7 +9,7 @@ ghost use Rattle.object_load.specs.Linking as of_code;
 ghost use Rattle.object_load.specs.Load as of_object;
 ghost use Rattle.object_load.specs.Reading.{Answers, AnswersAt};
 
-use crate::copying::append;
+use crate::copying::{append, copy};
 use crate::drafts::{Draft, program_symbol};
 use crate::fixes::fix_all;
 use crate::layout::Layout;
@@ -21,7 +20,7 @@ use crate::strays::{first_stray, fixed_slots};
 use bpf_insn::{Insn, InsnList};
 use bpf_machine::Code;
 use elf_objects::{Object, Symbol};
-use lists::{Bytes, List, OutOfMemory};
+use lists::{List, OutOfMemory};
 use run_config::NamedMap;
 use std::alloc::Global;
 
@@ -35,7 +34,6 @@ fn linked(
     insns: &[Insn],
 ) -> Result<InsnList, SlotEnd>
     requires layout { IsLayout object.now layout.now }
-    requires known { All (λ reloc. reloc.symbol < length (symbols object.now)) layout.now.text_relocs }
     requires makeable { AreMakeable (specs_of maps.now) }
     requires few { length layout.now.constants ≤ length maps.now }
     requires slots { symbol.size % 8 ≡ 0 }
@@ -83,22 +81,26 @@ fn linked(
     }
 }
 
-/// A copy of maps.
+fn copy_map(alloc: Global, map: &NamedMap) -> Result<NamedMap, OutOfMemory>
+    ensures { IfOk result (λ copied. copied ≡ map.now) }
+{
+    let name = copy(alloc, map.name.as_slice())?;
+    let spec = map.spec.copy(alloc)?;
+    Ok(NamedMap { name, spec })
+}
+
 fn copy_maps(alloc: Global, maps: &[NamedMap]) -> Result<List<NamedMap>, OutOfMemory>
     ensures { IfOk result (λ copied. copied ≡ maps.now) }
 {
     let mut copied = List::new(alloc);
     for map in maps {
-        let mut name = Bytes::new(alloc);
-        name.append(map.name.as_slice())?;
-        let spec = map.spec.copy(alloc)?;
-        copied.push(NamedMap { name, spec })?;
+        copied.push(copy_map(alloc, map)?)?;
     }
     Ok(copied)
 }
 
 /// The program of a draft.
-#[tactic(auto, using(crate::proofs::Counts::symbols_counted), unfolding(crate::specs::Linking::program_of))]
+#[tactic(auto, using(crate::proofs::Counts::symbols_counted))]
 fn make_program(
     alloc: Global,
     object: &Object<'_>,
@@ -108,18 +110,14 @@ fn make_program(
 ) -> Result<Program, SlotEnd>
     requires ready { IsReady object.now draft.now }
     requires layout { IsLayout object.now layout.now }
-    requires known { All (λ reloc. reloc.symbol < length (symbols object.now)) layout.now.text_relocs }
     requires makeable { AreMakeable (specs_of maps.now) }
     requires few { length layout.now.constants ≤ length maps.now }
-    ensures program { AnswersAt (λ answer. answer ≡ of_code.program_of object.now maps.now draft.now) result }
-    ensures runnable { IfOk result of_object.IsRunnable }
+    ensures { AnswersAt (λ answer. answer ≡ of_code.program_of object.now maps.now draft.now) result }
 {
     let symbol = program_symbol(object, draft.function.symbol);
     let insns = linked(alloc, object, layout, maps, symbol, draft.insns.as_slice())?;
-    let mut name = Bytes::new(alloc);
-    name.append(object.symbol_name(draft.function.symbol))?;
-    let mut section = Bytes::new(alloc);
-    section.append(object.section_name(u32::from(symbol.section)))?;
+    let name = copy(alloc, object.symbol_name(draft.function.symbol))?;
+    let section = copy(alloc, object.section_name(u32::from(symbol.section)))?;
     let maps = copy_maps(alloc, maps)?;
     let code = Code {
         insns,
@@ -144,7 +142,6 @@ pub(crate) fn make_programs(
 ) -> Result<ProgramList, LoadEnd>
     requires ready { All (IsReady object.now) drafts.now }
     requires layout { IsLayout object.now layout.now }
-    requires known { All (λ reloc. reloc.symbol < length (symbols object.now)) layout.now.text_relocs }
     requires makeable { AreMakeable (specs_of maps.now) }
     requires few { length layout.now.constants ≤ length maps.now }
     ensures programs { Answers (of_object.ArePrograms object.now maps.now drafts.now) result }

@@ -40,6 +40,15 @@ fn load_all(alloc: Global, object: &Object<'_>, indexes: &[u32]) -> Result<Progr
     make_programs(alloc, object, &layout, maps.as_slice(), drafts.as_slice())
 }
 
+fn load_object(alloc: Global, bytes: &[u8]) -> Result<ProgramList, LoadEnd>
+    ensures programs { Answers (of_object.Loads bytes.now) result }
+    ensures runnable { IfOk result (All of_object.IsRunnable) }
+{
+    let object = object_of(alloc, bytes)?;
+    let indexes = programs_in(alloc, &object)?;
+    load_all(alloc, &object, indexes.as_slice())
+}
+
 /// The programs of the object that the bytes are, or the first refusal in the order of `LoadRefusal`.
 pub fn programs_of(alloc: Global, bytes: &[u8]) -> Result<ProgramList, LoadEnd>
     // A refusal comes exactly where the bytes say it, and so do programs.
@@ -50,7 +59,5 @@ pub fn programs_of(alloc: Global, bytes: &[u8]) -> Result<ProgramList, LoadEnd>
     // Each program can be run, with the maps that its code asks for.
     ensures runnable { IfOk result (All of_object.IsRunnable) }
 {
-    let object = object_of(alloc, bytes)?;
-    let indexes = programs_in(alloc, &object)?;
-    load_all(alloc, &object, indexes.as_slice())
+    load_object(alloc, bytes)
 }

@@ -9,10 +9,11 @@ ghost use Rattle.object_load.specs.Reading.{Answers, Is};
 ghost use Rattle.object_load.specs.Sections as of_sections;
 ghost use Rattle.object_load.specs.Maps as of_object;
 
+use crate::copying::copy;
 use crate::refusal::{LoadEnd, LoadRefusal};
 use btf_types::Types;
 use elf_objects::Object;
-use lists::{Bytes, List, OutOfMemory};
+use lists::{List, OutOfMemory};
 use map_store::{MapKind, MapSpec};
 use run_config::{NamedMap, add_map, maps_of};
 use std::alloc::Global;
@@ -58,15 +59,6 @@ fn variable_maps(
         return Err(LoadEnd::Refused(LoadRefusal::BadMap { index: 0, rule: 1 }));
     }
     Ok(List::new(alloc))
-}
-
-/// Copies of bytes.
-fn copy(alloc: Global, bytes: &[u8]) -> Result<Bytes, OutOfMemory>
-    ensures { IfOk result (λ copied. copied ≡ bytes.now) }
-{
-    let mut copied = Bytes::new(alloc);
-    copied.append(bytes)?;
-    Ok(copied)
 }
 
 /// The map of a section of constants, which has at most the bytes of a value.

@@ -1,6 +1,7 @@
 //! The names that programs may have.
 
 ghost use Rattle.std.specs.Prelude.{◌≡◌};
+ghost use Rattle.std.specs.List.{list_all};
 ghost use Rattle.object_load.specs.Symbols as names;
 
 /// Whether a byte may stand in a program's name.
@@ -8,7 +9,13 @@ ghost use Rattle.object_load.specs.Symbols as names;
 fn is_name_byte(byte: u8) -> bool
     ensures { result ≡ names.is_name_byte byte }
 {
-    matches!(byte, b'a'..=b'z' | b'A'..=b'Z' | b'0'..=b'9' | b'_' | b'.' | b'$')
+    byte.is_ascii_alphanumeric() || byte == b'_' || byte == b'.' || byte == b'$'
+}
+
+fn has_name_bytes(name: &[u8]) -> bool
+    ensures { result ≡ list_all names.is_name_byte name.now }
+{
+    name.iter().all(|byte| is_name_byte(*byte))
 }
 
 /// Whether a program may have this name.
@@ -16,5 +23,5 @@ fn is_name_byte(byte: u8) -> bool
 pub(crate) fn is_program_name(name: &[u8]) -> bool
     ensures { result ≡ names.is_program_name name.now }
 {
-    !name.is_empty() && name.len() <= 128 && name.iter().all(|byte| is_name_byte(*byte))
+    !name.is_empty() && name.len() <= 128 && has_name_bytes(name)
 }

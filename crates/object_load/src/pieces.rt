@@ -1,6 +1,6 @@
 //! The pieces of a code, and the relocations for a section.
 
-ghost use Rattle.std.specs.Prelude.{◌≡◌, ◌<◌, ◌≤◌, ◌^◌, ◌++◌, All, IfOk, IfSome, OnOk, length};
+ghost use Rattle.std.specs.Prelude.{◌≡◌, ◌<◌, ◌^◌, ◌++◌, All, IfOk, IfSome, OnOk, length};
 ghost use Rattle.elf_objects.specs.Object.{sections, symbols};
 ghost use Rattle.object_load.specs.Linking as of_code;
 
@@ -49,12 +49,12 @@ fn push_relocs(
     requires known { number < length (sections object.now) }
     requires symbols { All (λ reloc. reloc.symbol < length (symbols object.now)) found.old }
     ensures found { OnOk result (found.new ≡ found.old ++ of_code.relocs_from object.now target number) }
-    ensures symbols { All (λ reloc. reloc.symbol < length (symbols object.now)) found.new }
+    ensures symbols { OnOk result (All (λ reloc. reloc.symbol < length (symbols object.now)) found.new) }
 {
-    if object.section(number).info == target {
-        append(found, object.relocs(number))?;
+    if object.section(number).info != target {
+        return Ok(());
     }
-    Ok(())
+    append(found, object.relocs(number))
 }
 
 /// The relocations for a section, in the order of the sections that hold them.

@@ -1,6 +1,6 @@
 //! The sections of an object by their names, and what they are for.
 
-ghost use Rattle.std.specs.Prelude.{◌≡◌, ◌<◌, ◌==◌, ◌++◌, not, true, codes, length, IfOk, IfSome};
+ghost use Rattle.std.specs.Prelude.{◌≡◌, ◌<◌, ◌==◌, ◌++◌, not, true, All, codes, length, IfOk, IfSome};
 ghost use Rattle.std.specs.List.{list_all};
 ghost use Rattle.elf_objects.specs.Object.{sections};
 ghost use Rattle.object_load.specs.Sections as of_object;
@@ -88,7 +88,8 @@ pub(crate) fn constant_sections(
     alloc: Global,
     object: &Object<'_>,
 ) -> Result<List<u32>, OutOfMemory>
-    ensures { IfOk result (λ numbers. numbers ≡ of_object.constant_sections object.now) }
+    ensures sections { IfOk result (λ numbers. numbers ≡ of_object.constant_sections object.now) }
+    ensures known { IfOk result (All (λ number. number < length (sections object.now))) }
 {
     let mut numbers = List::new(alloc);
     for number in 0..object.section_count() {

@@ -1,7 +1,6 @@
 //! Calls out of a function that no relocation leads somewhere.
 
-ghost use Rattle.std.specs.Prelude.{◌≡◌, ◌<◌, ◌≤◌, ◌+◌, ◌/◌, ◌*◌, ℕ, List, length, slice_index_or, vec_len, false, IfOk};
-ghost use Rattle.bpf_insn.specs.declared.insn.Insn.{Insn};
+ghost use Rattle.std.specs.Prelude.{◌≡◌, ◌<◌, ◌≤◌, ◌*◌, ℕ, List, length, slice_index_or, vec_len, false, IfOk};
 ghost use Rattle.object_load.specs.Linking as of_code;
 
 use crate::addresses::is_local_call;
@@ -42,6 +41,14 @@ fn leaves(own: u32, slot: u32, insn: &Insn) -> bool
     is_local_call(insn) && (target < 0 || target >= i64::from(own))
 }
 
+/// Whether a slot, in which a relocation is or isn't, calls out of the function of the first ones.
+#[tactic(auto, unfolding(crate::specs::Linking::is_stray))]
+fn is_stray(fixed: bool, insns: &InsnList, own: u32, slot: u32) -> bool
+    ensures { result ≡ of_code.is_stray fixed insns.now own slot }
+{
+    !fixed && slot < insns.len() && leaves(own, slot, insns.at(slot))
+}
+
 /// The first call out of a function in whose slot no relocation is.
 #[tactic(auto, unfolding(crate::specs::Linking::first_stray))]
 pub(crate) fn first_stray(marks: &[bool], insns: &InsnList, own: u32) -> Option<u32>
@@ -51,7 +58,7 @@ pub(crate) fn first_stray(marks: &[bool], insns: &InsnList, own: u32) -> Option<
         → result ≡ of_code.first_stray fixes insns.now own }
 {
     for slot in 0..own {
-        if !marks[slot as usize] && slot < insns.len() && leaves(own, slot, insns.at(slot)) {
+        if is_stray(marks[slot as usize], insns, own, slot) {
             return Some(slot);
         }
     }

@@ -1,6 +1,6 @@
 //! The types of an object, and the run configurations of its programs.
 
-ghost use Rattle.std.specs.Prelude.{◌≡◌, All, IfOk};
+ghost use Rattle.std.specs.Prelude.{All, IfOk};
 ghost use Rattle.object_load.specs.Reading.{Answers, Is};
 ghost use Rattle.object_load.specs.Symbols.{IsProgram};
 ghost use Rattle.object_load.specs.Types as of_object;

@@ -1,7 +1,6 @@
-use Rattle.std.proofs.Common.{◌≡◌, false}
-use Rattle.std.specs.List.{list_any, range_with_len}
+use Rattle.std.proofs.Common.{◌≡◌, ℕ, ◌<◌, false}
 use Rattle.object_load.specs.Maps.{holds_maps}
 use Rattle.object_load.proofs.maps.has_maps.Given as goal
 
 abbrev pub invariant-loop-number : goal.invariant-loop-number
-invariant-loop-number l = list_any (holds_maps l.object) (range_with_len 0 l.number) ≡ false
+invariant-loop-number l = (k : ℕ) → k < l.number → holds_maps l.object k ≡ false

@@ -1,7 +1,7 @@
 //! Each refusal, and which comes first.
 
-use super::sample::*;
-use crate::{LoadEnd, LoadRefusal};
+use crate::sample::*;
+use object_load::{LoadEnd, LoadRefusal};
 use btf_types::BadBtf;
 use elf_objects::BadElf;
 use std::alloc::{AllocError, Global};

@@ -1,6 +1,6 @@
 //! An object with the sections that compilers make of programs.
 
-use crate::{LoadEnd, ProgramList, programs_of};
+use object_load::{LoadEnd, ProgramList, programs_of};
 use std::alloc::{AllocError, Global};
 
 /// r0 = 2; exit; a wide load into r1; a call of a function of the program, with -1 and with another number.

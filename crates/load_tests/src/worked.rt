@@ -1,7 +1,7 @@
 //! Whole objects, and what is said of each of their programs.
 
-use super::sample::*;
-use crate::{LoadEnd, LoadRefusal, Program, ProgramList, programs_of};
+use crate::sample::*;
+use object_load::{LoadEnd, LoadRefusal, Program, ProgramList, programs_of};
 use elf_objects::BadElf;
 use map_store::MapKind;
 use run_config::{NamedMap, RunConfig};

@@ -1,7 +1,7 @@
 //! What relocations make of codes.
 
-use super::sample::*;
-use crate::{LoadEnd, LoadRefusal, ProgramList};
+use crate::sample::*;
+use object_load::{LoadEnd, LoadRefusal, ProgramList};
 use std::alloc::{AllocError, Global};
 use std::test::Fail;
 
