@@ -1,9 +1,14 @@
 /* Sends TCP packets for one service to one of two servers, by their source address and port, and back out where they came in. */
 #include "xdp.h"
 
-struct tcp_ports {
+struct tcp {
 	u16 source;
 	u16 target;
+	u32 sequence;
+	u32 acknowledgement;
+	u16 flags;
+	u16 window;
+	u16 checksum;
 } __attribute__((packed));
 
 struct server {
@@ -23,7 +28,7 @@ struct {
 	__uint(XDP_PASS, 1);
 } XDP_RUN_CONFIG(balance);
 
-/* One's complement sums, for the change of a header's checksum (RFC 1624). */
+/* A checksum of a header in which an address changes (RFC 1624). */
 static __attribute__((noinline)) u16 with_change(u16 checksum, u32 old, u32 new)
 {
 	u32 sum = (u16)~checksum;
@@ -44,18 +49,20 @@ int balance(struct xdp_md *context)
 	void *end = (void *)(long)context->data_end;
 	struct ethernet *ethernet = data;
 	struct ipv4 *ip = data + sizeof *ethernet;
-	struct tcp_ports *ports = (void *)(ip + 1);
+	struct tcp *tcp = (void *)(ip + 1);
 	const volatile struct server *server;
-	u32 address;
+	u32 old, new;
 
-	if ((void *)(ports + 1) > end || ethernet->type != be16(ETH_IPV4) || ip->version_and_length != 0x45)
+	if ((void *)(tcp + 1) > end || ethernet->type != be16(ETH_IPV4) || ip->version_and_length != 0x45)
 		return XDP_PASS;
 	if (ip->protocol != PROTOCOL_TCP || ip->target != be32(service))
 		return XDP_PASS;
-	server = &servers[(ip->source ^ ip->source >> 24 ^ ports->source ^ ports->source >> 8) & 1];
-	address = server->address;
-	ip->checksum = be16(with_change(be16(ip->checksum), be32(ip->target), address));
-	ip->target = be32(address);
+	server = &servers[(ip->source ^ ip->source >> 24 ^ tcp->source ^ tcp->source >> 8) & 1];
+	old = be32(ip->target);
+	new = server->address;
+	ip->checksum = be16(with_change(be16(ip->checksum), old, new));
+	tcp->checksum = be16(with_change(be16(tcp->checksum), old, new));
+	ip->target = be32(new);
 	for (int i = 0; i < 6; i++) {
 		ethernet->source[i] = ethernet->target[i];
 		ethernet->target[i] = server->link[i];

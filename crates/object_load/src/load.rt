@@ -19,7 +19,6 @@ use elf_objects::{Object, read_object};
 use std::alloc::Global;
 
 /// The object that the bytes are.
-#[tactic(auto, unfolding(crate::specs::Symbols::object_of))]
 fn object_of<'a>(alloc: Global, bytes: &'a [u8]) -> Result<Object<'a>, LoadEnd>
     ensures { Answers (Is (of_file.object_of bytes.now)) result }
 {

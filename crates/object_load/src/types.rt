@@ -21,7 +21,6 @@ const DEFAULT_CONFIG: RunConfig = RunConfig {
 };
 
 /// The types of an object that has a section of types.
-#[tactic(auto, unfolding(crate::specs::Types::btf, crate::specs::Types::types_in))]
 pub(crate) fn types_in(alloc: Global, object: &Object<'_>) -> Result<Option<Types>, LoadEnd>
     ensures { Answers (Is (of_object.types_in object.now)) result }
 {
