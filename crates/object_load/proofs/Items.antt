@@ -2,13 +2,20 @@
 use Rattle.std.proofs.Common.{◌≡◌, ℕ, ◌+◌, ◌≤◌, List, [], ◌∷◌, ◌++◌, length, take, Ok, Err, Result, Some, sym, ◌∙◌, subst, arith}
 use Rattle.std.specs.List.{slice_get, All}
 use Rattle.std.proofs.lemmas.List.{length-take-le, take_all}
-use Rattle.std.proofs.lemmas.List.Elements.{All-push}
+use Rattle.std.proofs.lemmas.List.Elements.{All-nil, All-push}
 use Rattle.std.proofs.lemmas.Option.{slice_get_within}
-use Rattle.run_config.specs.Values.{Paired}
+use Rattle.run_config.specs.Values.{Paired, none}
 use Rattle.run_config.proofs.Pairing.{paired-length, paired-push}
 use Rattle.run_config.proofs.Parts.{take-next}
 use Rattle.object_load.specs.declared.refusal.LoadRefusal.{LoadRefusal}
 use Rattle.object_load.specs.Reading.{Each, every, refused}
+
+-- no item so far
+pub paired_start : {A B : Type 0} (R : A → B → Type 0) (given : List B) → given ≡ [] → Paired R [] given
+paired_start R given is = subst (Paired R []) (sym is) none
+
+pub all_start : {A : Type 0} (P : A → Type 0) (given : List A) → given ≡ [] → All P given
+all_start P given is = subst (All P) (sym is) (All-nil P)
 
 -- one item more gave something
 pub paired_more : {A B : Type 0} (R : A → B → Type 0) (items : List A) (given more : List B) (i : ℕ) (item : A) (one : B) → more ≡ given ++ one ∷ [] → slice_get items i ≡ Some item → Paired R (take i items) given → R item one → Paired R (take (i + 1) items) more

@@ -7,6 +7,7 @@ pub mod ProgramSymbols
 pub mod Drafting
 pub mod Refusals
 pub mod ConstantMaps
+pub mod Addressing
 pub mod Fixing
 pub mod Marks
 pub mod Linked

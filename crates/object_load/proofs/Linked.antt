@@ -155,17 +155,17 @@ unfolding text_fixes
 text_by file s relocs size is long = ap (λ (n : ℕ). fixes_in (Text s.size n) relocs) long ∙ ap (fixes_in (Text s.size (length (text file)))) is
 
 -- the steps of linking, with the relocations that the code has
-module _ (file : List ℕ) (maps : List NamedMap) (s : Symbol) (insns : List Insn) (relocs : List Reloc) (is : relocs ≡ relocs_for file s.section) where
-  after_own : (first : Result (List Insn) ℕ) → first ≡ fixed_all file maps (s.size / 8) insns (fixes_in (Own s.value s.size) relocs) → linked file maps s insns ≡ and_then first (λ changed. and_then (fixed_all file maps (s.size / 8) changed (text_fixes file s)) (λ code. refuse_at (first_stray (own_fixes file s) code (s.size / 8)) code))
+module _ (file : List ℕ) (maps : List NamedMap) (s : Symbol) (insns begun : List Insn) (relocs : List Reloc) (same : begun ≡ insns) (is : relocs ≡ relocs_for file s.section) where
+  after_own : (first : Result (List Insn) ℕ) → first ≡ fixed_all file maps (s.size / 8) begun (fixes_in (Own s.value s.size) relocs) → linked file maps s insns ≡ and_then first (λ changed. and_then (fixed_all file maps (s.size / 8) changed (text_fixes file s)) (λ code. refuse_at (first_stray (own_fixes file s) code (s.size / 8)) code))
   unfolding linked
   after_own first own =
       ap (λ (r : Result (List Insn) ℕ). and_then r (λ changed. and_then (fixed_all file maps (s.size / 8) changed (text_fixes file s)) (λ code. refuse_at (first_stray (own_fixes file s) code (s.size / 8)) code)))
-      (sym (own ∙ ap (fixed_all file maps (s.size / 8) insns) (own_by file s relocs is)))
+      (sym (own ∙ ap (λ (code : List Insn). fixed_all file maps (s.size / 8) code (fixes_in (Own s.value s.size) relocs)) same ∙ ap (fixed_all file maps (s.size / 8) insns) (own_by file s relocs is)))
 
-  pub refused_own : (slot : ℕ) → Err slot ≡ fixed_all file maps (s.size / 8) insns (fixes_in (Own s.value s.size) relocs) → Err slot ≡ linked file maps s insns
+  pub refused_own : (slot : ℕ) → Err slot ≡ fixed_all file maps (s.size / 8) begun (fixes_in (Own s.value s.size) relocs) → Err slot ≡ linked file maps s insns
   refused_own slot own = sym (after_own (Err slot) own)
 
-  module _ (changed : List Insn) (others : List Reloc) (size : ℕ) (own : Ok changed ≡ fixed_all file maps (s.size / 8) insns (fixes_in (Own s.value s.size) relocs)) (are : others ≡ text_relocs file) (long : size ≡ length (text file)) where
+  module _ (changed : List Insn) (others : List Reloc) (size : ℕ) (own : Ok changed ≡ fixed_all file maps (s.size / 8) begun (fixes_in (Own s.value s.size) relocs)) (are : others ≡ text_relocs file) (long : size ≡ length (text file)) where
     after_text : (second : Result (List Insn) ℕ) → second ≡ fixed_all file maps (s.size / 8) changed (fixes_in (Text s.size size) others) → linked file maps s insns ≡ and_then second (λ code. refuse_at (first_stray (own_fixes file s) code (s.size / 8)) code)
     after_text second made =
         after_own (Ok changed) own

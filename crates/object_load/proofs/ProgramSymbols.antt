@@ -32,9 +32,24 @@ in_section : (file : List ℕ) (index : ℕ) → names_program file index ≡ tr
 unfolding names_program
 in_section file index is =
     let s = symbol file index in
-    let parts = three (is_function s) (nat_lt s.section (section_count file)) (holds_programs file s.section) is in
-    let known : nat_lt s.section (section_count file) ≡ true = parts.1 in
+    let parts = three (nat_lt s.section (section_count file)) (is_function s) (holds_programs file s.section) is in
+    let known : nat_lt s.section (section_count file) ≡ true = parts.0 in
     (grind (arith, nat_tests), parts.2)
+
+pub names-outside : (file : List ℕ) (index : ℕ) → section_count file ≤ (symbol file index).section → false ≡ names_program file index
+unfolding names_program
+names-outside file index outside =
+    let s = symbol file index in
+    let no : nat_lt s.section (section_count file) ≡ false = grind (arith, nat_tests) in
+    sym (ap (λ b. b && is_function s && holds_programs file s.section) no)
+
+pub names-function : (file : List ℕ) (index section : ℕ) → section ≡ (symbol file index).section → section < section_count file → is_function (symbol file index) ≡ true → holds_programs file section ≡ names_program file index
+unfolding names_program
+names-function file index section at within named =
+    let s = symbol file index in
+    let yes : nat_lt s.section (section_count file) ≡ true = grind (arith, nat_tests) in
+    ap (holds_programs file) at
+    ∙ sym (ap (λ b. b && is_function s && holds_programs file s.section) yes ∙ ap (λ b. true && b && holds_programs file s.section) named)
 
 pub section_known : (file : List ℕ) (index : ℕ) → IsProgram file index → (symbol file index).section < section_count file
 section_known file index program = (in_section file index program.program).0

@@ -2,7 +2,7 @@
 use Rattle.std.proofs.Common.{◌≡◌, ℕ, List, length, Option, None, Some, Ok, Err, refl, sym, ap, ◌∙◌}
 use Rattle.std.specs.Prelude.{codes}
 use Rattle.std.specs.Option.{option_map}
-use Rattle.btf_types.specs.declared.bad_ends.BadBtf.{BadBtf}
+use Rattle.btf_types.specs.declared.bad_btf.BadBtf.{BadBtf}
 use Rattle.btf_types.specs.declared.bad_btf.BtfEnd.{BtfEnd}
 use Rattle.btf_types.specs.declared.bad_btf.BtfEnd.TheVariants as ends
 use Rattle.btf_types.specs.Breaks.{first_break}

@@ -108,16 +108,23 @@ constant_address maps constants s imm =
     option_and_then (λ place. address_in maps (pos s.value +ℤ imm) (length maps - length constants + place))
     (position (λ number. number == s.section) constants)
 
+-- a symbol in a section of maps
+unfoldable pub is_in_maps : List ℕ → Symbol → Bool
+is_in_maps file s = nat_lt s.section (section_count file) && has_name file (codes ".maps") s.section
+
 unfoldable pub address : List ℕ → List NamedMap → ℕ → ℤ → Option ℤ
 address file maps index imm =
     let s = symbol file index in
-    if nat_lt s.section (section_count file) && has_name file (codes ".maps") s.section then map_reference file maps index
-    else constant_address maps (constant_sections file) s imm
+    if is_in_maps file s then map_reference file maps index else constant_address maps (constant_sections file) s imm
 
--- from the slot behind a call to the slot of `.text`, which stands behind so many others, that a symbol and an immediate name
+-- the slot of `.text` that a symbol and an immediate name
+unfoldable pub target_slot : Symbol → ℤ → ℤ
+target_slot s imm = (pos (s.value / 8) +ℤ imm) +ℤ pos 1
+
+-- from the slot behind a call to that slot of `.text`, which stands behind so many others
 unfoldable pub distance : List ℕ → ℕ → Symbol → ℕ → ℤ → Option ℤ
 distance file own s slot imm =
-    let target = (pos (s.value / 8) +ℤ imm) +ℤ pos 1 in
+    let target = target_slot s imm in
     if option_map_or (λ number. number == s.section) (text_section file) false && (s.value % 8 == 0)
     && int_le (pos 0) target && int_lt target (pos (length (text file) / 8))
     then Some (((pos own +ℤ target) -ℤ pos slot) -ℤ pos 1) else None

@@ -40,7 +40,7 @@ constant_map file number = record {
 }
 
 abbrev pub map_refusal : MapBreak → LoadRefusal
-map_refusal broken = BadMap broken.index broken.rule
+map_refusal bad = BadMap bad.index bad.rule
 
 -- maps with these sections of constants behind them, or the first rule that one of these breaks there
 unfoldable pub with_constants : List ℕ → List NamedMap → List ℕ → Result (List NamedMap) LoadRefusal

@@ -1,6 +1,6 @@
 //! The numbers that take the places of symbols in code.
 
-ghost use Rattle.std.specs.Prelude.{◌≡◌, ◌<◌, ◌≤◌, ◌+◌, ◌/◌, ◌==◌, ℕ, List, length, position};
+ghost use Rattle.std.specs.Prelude.{◌≡◌, ◌<◌, ◌≤◌, ◌+◌, ◌/◌, ◌==◌, ℕ, pos, ◌+ℤ◌, ◌-ℤ◌, ◌≤ℤ◌, ◌<ℤ◌, List, length, position};
 ghost use Rattle.std.specs.Str.{bytes_eq};
 ghost use Rattle.elf_objects.specs.Object.{symbols};
 ghost use Rattle.map_store.specs.Initial.{AreMakeable};
@@ -97,8 +97,17 @@ fn constant_address(maps: &[NamedMap], constants: &[u32], symbol: Symbol, imm: i
     value_address(number, &maps[number], offset)
 }
 
+/// Whether a symbol is in a section of maps.
+#[tactic(auto, unfolding(crate::specs::Linking::is_in_maps, crate::specs::Sections::has_name))]
+fn is_in_maps(object: &Object<'_>, symbol: Symbol) -> bool
+    ensures { result ≡ of_code.is_in_maps object.now symbol }
+{
+    let section = u32::from(symbol.section);
+    section < object.section_count() && object.section_is(section, b".maps")
+}
+
 /// The number that takes the place of a symbol in a wide load.
-#[tactic(auto, unfolding(crate::specs::Linking::address, crate::specs::Sections::has_name))]
+#[tactic(auto, unfolding(crate::specs::Linking::address))]
 fn address(
     object: &Object<'_>,
     layout: &Layout,
@@ -113,11 +122,28 @@ fn address(
     ensures { result ≡ of_code.address object.now maps.now index imm }
 {
     let symbol = object.symbol(index);
-    let section = u32::from(symbol.section);
-    if section < object.section_count() && object.section_is(section, b".maps") {
+    if is_in_maps(object, symbol) {
         return map_reference(object, maps, index);
     }
     constant_address(maps, layout.constants.as_slice(), symbol, imm)
+}
+
+/// The slot of `.text` that a symbol and an immediate name.
+fn target_slot(symbol: Symbol, imm: i32) -> i64
+    ensures { result ≡ of_code.target_slot symbol imm }
+{
+    (symbol.value / 8) as i64 + i64::from(imm) + 1
+}
+
+/// How far a slot of `.text`, which stands behind so many others, is from the slot behind a call.
+fn span(own: u32, target: i64, slot: u32) -> i32
+    requires first { pos 0 ≤ℤ target }
+    requires last { target <ℤ pos 65536 }
+    requires own { own ≤ 65536 }
+    requires slot { slot ≤ 65536 }
+    ensures { result ≡ ((pos own +ℤ target) -ℤ pos slot) -ℤ pos 1 }
+{
+    (i64::from(own) + target - i64::from(slot) - 1) as i32
 }
 
 /// How far a function of `.text` is from the slot behind a call.
@@ -130,11 +156,11 @@ fn distance(layout: &Layout, own: u32, symbol: Symbol, slot: u32, imm: i32) -> O
     if layout.text != Some(u32::from(symbol.section)) || symbol.value % 8 != 0 {
         return None;
     }
-    let target = (symbol.value / 8) as i64 + i64::from(imm) + 1;
+    let target = target_slot(symbol, imm);
     if target < 0 || target >= (layout.text_size / 8) as i64 {
         return None;
     }
-    Some((i64::from(own) + target - i64::from(slot) - 1) as i32)
+    Some(span(own, target, slot))
 }
 
 /// The new immediate of an instruction that a relocation changes.

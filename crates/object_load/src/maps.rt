@@ -43,6 +43,17 @@ fn has_maps(object: &Object<'_>) -> bool
     false
 }
 
+/// The maps of `.maps` without types: none, if no such section has bytes.
+fn untyped_maps(alloc: Global, object: &Object<'_>) -> Result<List<NamedMap>, LoadEnd>
+    ensures maps { Answers (of_object.HasVariables object.now None) result }
+    ensures makeable { IfOk result (λ maps. AreMakeable (specs_of maps)) }
+{
+    if has_maps(object) {
+        return Err(LoadEnd::Refused(LoadRefusal::BadMap { index: 0, rule: 1 }));
+    }
+    Ok(List::new(alloc))
+}
+
 /// The maps of `.maps`.
 fn variable_maps(
     alloc: Global,
@@ -52,13 +63,10 @@ fn variable_maps(
     ensures maps { Answers (of_object.HasVariables object.now types.now) result }
     ensures makeable { IfOk result (λ maps. AreMakeable (specs_of maps)) }
 {
-    if let Some(types) = types {
-        return Ok(maps_of(alloc, types)?);
+    match types {
+        Some(types) => Ok(maps_of(alloc, types)?),
+        None => untyped_maps(alloc, object),
     }
-    if has_maps(object) {
-        return Err(LoadEnd::Refused(LoadRefusal::BadMap { index: 0, rule: 1 }));
-    }
-    Ok(List::new(alloc))
 }
 
 /// The map of a section of constants, which has at most the bytes of a value.

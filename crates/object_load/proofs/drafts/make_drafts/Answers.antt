@@ -2,12 +2,19 @@ use Rattle.std.proofs.Common.{Ok, arith}
 use Rattle.std.proofs.lemmas.Option.{slice_get-get_or}
 use Rattle.object_load.specs.declared.refusal.LoadRefusal.TheVariants.{BadInsn}
 use Rattle.object_load.specs.Code.{IsDraft, IsReady}
-use Rattle.object_load.proofs.Items.{all_more, each_all, each_first, paired_more}
+use Rattle.object_load.proofs.Items.{all_more, all_start, each_all, each_first, paired_more, paired_start}
 use Rattle.object_load.proofs.drafts.make_drafts.Goals as goal
+
+pub loop-function-init : goal.loop-function-init
+loop-function-init c = record {
+  each = paired_start (λ function draft. IsDraft c.args.object.now function (Ok draft)) _ c.new-drafts.ensures;
+  ready = all_start (IsReady c.args.object.now) _ c.new-drafts.ensures;
+}
 
 pub returns-in-Err-Bad-clause-drafts : goal.returns-in-Err-Bad-clause-drafts
 returns-in-Err-Bad-clause-drafts c =
-    each_first (IsDraft c.args.object.now) BadInsn c.args.functions.now c.loop-function.drafts c.loop-function.function-index _ c.in-Err-Bad.slot (slice_get-get_or c.args.functions.now c.loop-function.function-index _ (omega arith)) c.loop-function.invariant.each c.in-Err-Bad.ensures.draft
+    rw (c.in-Err-Bad.field-0-is, c.len.ensures)
+    (each_first (IsDraft c.args.object.now) BadInsn c.args.functions.now c.loop-function.drafts c.loop-function.function-index _ c.in-Err-Bad.slot (slice_get-get_or c.args.functions.now c.loop-function.function-index _ (omega arith)) c.loop-function.invariant.each (rw c.in-Err-Bad.field-0-is at c.in-Err-Bad.ensures.draft))
 
 pub loop-function-preserved : goal.loop-function-preserved
 loop-function-preserved c =

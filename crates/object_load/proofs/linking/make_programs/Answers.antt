@@ -4,15 +4,22 @@ use Rattle.std.proofs.lemmas.Option.{slice_get_read}
 use Rattle.object_load.specs.declared.refusal.LoadRefusal.TheVariants.{BadReloc}
 use Rattle.object_load.specs.Linking.{program_of}
 use Rattle.object_load.specs.Load.{IsRunnable}
-use Rattle.object_load.proofs.Items.{all_more, each_all, each_first, paired_more}
+use Rattle.object_load.proofs.Items.{all_more, all_start, each_all, each_first, paired_more, paired_start}
 use Rattle.object_load.proofs.Linked.{runnable_from}
 use Rattle.object_load.proofs.linking.make_programs.Goals as goal
+
+pub loop-draft-init : goal.loop-draft-init
+loop-draft-init c = record {
+  each = paired_start (λ draft program. Ok program ≡ program_of c.args.object.now c.args.maps.now draft) _ c.new-programs.ensures;
+  runnable = all_start IsRunnable _ c.new-programs.ensures;
+}
 
 pub returns-in-Err-Bad-clause-programs : goal.returns-in-Err-Bad-clause-programs
 returns-in-Err-Bad-clause-programs c =
     let drafts = c.args.drafts.now in
     let i = c.loop-draft.draft-index in
-    each_first (λ draft answer. answer ≡ program_of c.args.object.now c.args.maps.now draft) BadReloc drafts c.loop-draft.programs i c.draft-item.result c.in-Err-Bad.slot (slice_get_read drafts (length drafts) i c.draft-item.result refl (omega arith) c.draft-item.is) c.loop-draft.invariant.each c.in-Err-Bad.ensures
+    rw (c.in-Err-Bad.field-0-is, c.len.ensures)
+    (each_first (λ draft answer. answer ≡ program_of c.args.object.now c.args.maps.now draft) BadReloc drafts c.loop-draft.programs i c.draft-item.result c.in-Err-Bad.slot (slice_get_read drafts (length drafts) i c.draft-item.result refl (omega arith) c.draft-item.is) c.loop-draft.invariant.each (rw c.in-Err-Bad.field-0-is at c.in-Err-Bad.ensures))
 
 pub loop-draft-preserved : goal.loop-draft-preserved
 loop-draft-preserved c =

@@ -1,9 +1,12 @@
-use Rattle.std.proofs.Common.{Err}
+use Rattle.std.proofs.Common.{List, Ok, Err, subst}
 use Rattle.std.proofs.lemmas.Result.{err_from_is_err_and}
+use Rattle.run_config.specs.declared.named_map.NamedMap.{NamedMap}
+use Rattle.object_load.specs.declared.drafts.Draft.{Draft}
+use Rattle.object_load.specs.declared.drafts.Function.{Function}
 use Rattle.object_load.specs.Code.{AreDrafts}
 use Rattle.object_load.specs.Load.{ArePrograms, LoadsFunctions, LoadsMapped, LoadsTyped}
 use Rattle.object_load.specs.Maps.{HasMaps}
-use Rattle.object_load.specs.Reading.{Is}
+use Rattle.object_load.specs.Reading.{Answers, Is}
 use Rattle.object_load.specs.Types.{types_in, AreFunctions}
 use Rattle.object_load.proofs.Readings.{then_ends, then_goes_on}
 use Rattle.object_load.proofs.load.load_all.Goals as goal
@@ -42,7 +45,7 @@ returns-in_err-drafts-clause-programs c =
     let maps = c.in_ok-maps.maps in
     let end = c.in_err-drafts.field-0.0 in
     let p = err_from_is_err_and c.from_residual-in_err-drafts.result c.from_residual-in_err-drafts.ensures.1 in
-    let ends = rw c.as_slice-2.ensures at c.in_err-drafts.ensures.drafts in
+    let ends = subst (λ (xs : List Function). Answers (AreDrafts file xs) (Err end)) c.as_slice-2.ensures c.in_err-drafts.ensures.drafts in
     rw (p.1, p.2)
     (then_goes_on (Is (types_in file)) (LoadsTyped file c.args.indexes.now) types (Err end) c.in_ok-types.ensures
     (then_goes_on (AreFunctions file types c.args.indexes.now) (LoadsFunctions file types) functions (Err end) c.in_ok-functions.ensures.functions
@@ -57,8 +60,8 @@ returns-clause-programs c =
     let maps = c.in_ok-maps.maps in
     let drafts = c.in_ok-drafts.drafts in
     let result = c.make_programs.result in
-    let made = rw c.as_slice-2.ensures at c.in_ok-drafts.ensures.drafts in
-    let programs = rw (c.as_slice-3.ensures, c.as_slice-4.ensures) at c.make_programs.ensures.programs in
+    let made = subst (λ (xs : List Function). AreDrafts file xs (Ok drafts)) c.as_slice-2.ensures c.in_ok-drafts.ensures.drafts in
+    let programs = subst (λ (xs : List Draft). Answers (ArePrograms file maps xs) result) c.as_slice-4.ensures (subst (λ (xs : List NamedMap). Answers (ArePrograms file xs c.as_slice-4.result.now) result) c.as_slice-3.ensures c.make_programs.ensures.programs) in
     then_goes_on (Is (types_in file)) (LoadsTyped file c.args.indexes.now) types result c.in_ok-types.ensures
     (then_goes_on (AreFunctions file types c.args.indexes.now) (LoadsFunctions file types) functions result c.in_ok-functions.ensures.functions
     (then_goes_on (HasMaps file types) (LoadsMapped file functions) maps result c.in_ok-maps.ensures.maps

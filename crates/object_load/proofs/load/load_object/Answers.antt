@@ -1,7 +1,7 @@
-use Rattle.std.proofs.Common.{Err}
+use Rattle.std.proofs.Common.{ℕ, List, Err, subst}
 use Rattle.std.proofs.lemmas.Result.{err_from_is_err_and}
 use Rattle.object_load.specs.Load.{LoadsObject, LoadsSymbols}
-use Rattle.object_load.specs.Reading.{Is}
+use Rattle.object_load.specs.Reading.{Answers, Is}
 use Rattle.object_load.specs.Symbols.{object_of, programs_in}
 use Rattle.object_load.proofs.Readings.{then_ends, then_goes_on}
 use Rattle.object_load.proofs.load.load_object.Goals as goal
@@ -23,6 +23,6 @@ pub returns-clause-programs : goal.returns-clause-programs
 returns-clause-programs c =
     let object = c.in_ok-object.object in
     let indexes = c.in_ok-indexes.indexes in
-    let loads = rw c.as_slice.ensures at c.load_all.ensures.programs in
+    let loads = subst (λ (xs : List ℕ). Answers (LoadsSymbols object xs) c.load_all.result) c.as_slice.ensures c.load_all.ensures.programs in
     then_goes_on (Is (object_of c.args.bytes.now)) LoadsObject object c.load_all.result c.in_ok-object.ensures
     (then_goes_on (Is (programs_in object)) (LoadsSymbols object) indexes c.load_all.result c.in_ok-indexes.ensures.symbols loads)

@@ -8,9 +8,9 @@ use Rattle.object_load.proofs.Counts.{sections_counted}
 use Rattle.object_load.proofs.Ranges.{filter_failed, filter_passed}
 use Rattle.object_load.proofs.sections.constant_sections.Goals as goal
 
-pub loop-number-preserved-then-holds_constants : goal.loop-number-preserved-then-holds_constants
-loop-number-preserved-then-holds_constants c = record {
-  numbers = c.loop-number.invariant.numbers ∙ sym (filter_failed (holds_constants c.args.object.now) c.loop-number.number (sym c.holds_constants.ensures ∙ c.if-holds_constants.true));
+pub loop-number-preserved-then-not-holds_constants : goal.loop-number-preserved-then-not-holds_constants
+loop-number-preserved-then-not-holds_constants c = record {
+  numbers = c.loop-number.invariant.numbers ∙ sym (filter_failed (holds_constants c.args.object.now) c.loop-number.number (sym c.holds_constants.ensures ∙ c.if-not-holds_constants.true));
   known = c.loop-number.invariant.known;
 }
 
@@ -19,7 +19,7 @@ loop-number-preserved c =
     let file = c.args.object.now in
     let number = c.loop-number.number in
     record {
-      numbers = c.in_ok-push.ensures.ok ∙ ap (λ (xs : List ℕ). xs ++ number ∷ []) c.loop-number.invariant.numbers ∙ sym (filter_passed (holds_constants file) number (sym c.holds_constants.ensures ∙ c.if-holds_constants.false));
+      numbers = c.in_ok-push.ensures.ok ∙ ap (λ (xs : List ℕ). xs ++ number ∷ []) c.loop-number.invariant.numbers ∙ sym (filter_passed (holds_constants file) number (sym c.holds_constants.ensures ∙ c.if-not-holds_constants.false));
       known = subst (λ (xs : List ℕ). All (λ number. number < length (sections file)) xs) (sym c.in_ok-push.ensures.ok) (All-push (λ number. number < length (sections file)) c.loop-number.numbers number c.loop-number.invariant.known (omega arith));
     }
 

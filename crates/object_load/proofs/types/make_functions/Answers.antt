@@ -3,8 +3,14 @@ use Rattle.std.proofs.lemmas.Option.{slice_get-get_or}
 use Rattle.elf_objects.specs.Object.{symbol_name}
 use Rattle.object_load.specs.Symbols.{IsProgram}
 use Rattle.object_load.specs.Types.{config_refusal, HasConfig, IsFunction}
-use Rattle.object_load.proofs.Items.{all_more, each_all, each_first, paired_more}
+use Rattle.object_load.proofs.Items.{all_more, all_start, each_all, each_first, paired_more, paired_start}
 use Rattle.object_load.proofs.types.make_functions.Goals as goal
+
+pub loop-index-init : goal.loop-index-init
+loop-index-init c = record {
+  each = paired_start (λ index function. IsFunction c.args.object.now c.args.types.now index (Ok function)) _ c.new-functions.ensures;
+  programs = all_start (λ function. IsProgram c.args.object.now function.symbol) _ c.new-functions.ensures;
+}
 
 pub returns-in-Err-clause-functions : goal.returns-in-Err-clause-functions
 returns-in-Err-clause-functions c =
