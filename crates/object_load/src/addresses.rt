@@ -98,7 +98,7 @@ fn constant_address(maps: &[NamedMap], constants: &[u32], symbol: Symbol, imm: i
 }
 
 /// Whether a symbol is in a section of maps.
-#[tactic(auto, unfolding(crate::specs::Linking::is_in_maps, crate::specs::Sections::has_name))]
+#[tactic(auto, using(crate::proofs::Counts::sections_counted), unfolding(crate::specs::Linking::is_in_maps, crate::specs::Sections::has_name))]
 fn is_in_maps(object: &Object<'_>, symbol: Symbol) -> bool
     ensures { result ≡ of_code.is_in_maps object.now symbol }
 {

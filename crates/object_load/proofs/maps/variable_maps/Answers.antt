@@ -10,8 +10,8 @@ pub returns-in_err-maps_of-in-Some-clause-maps : goal.returns-in_err-maps_of-in-
 returns-in_err-maps_of-in-Some-clause-maps c =
     let p = err_from_is_err_and c.from_residual.result c.from_residual.ensures.1 in
     subst (λ (types : Option TypeTable). Answers (HasVariables c.args.object.now types) c.from_residual.result) (sym c.in-Some.is)
-    (rw (p.1, p.2) (variables_refused c.args.object.now c.in-Some.types c.in_err-maps_of.field-0.0 (λ index rule is. c.in_err-maps_of.ensures.bad index rule (ap Err is))))
+    (rw (p.1, p.2) (variables_refused c.args.object.now c.in-Some.types c.in_err-maps_of-in-Some.field-0.0 (λ index rule is. c.in_err-maps_of-in-Some.ensures.bad index rule (ap Err is))))
 
 pub returns-in_ok-maps_of-in-Some-clause-maps : goal.returns-in_ok-maps_of-in-Some-clause-maps
 returns-in_ok-maps_of-in-Some-clause-maps c =
-    subst (λ (types : Option TypeTable). HasVariables c.args.object.now types (Ok c.in_ok-maps_of.field-0)) (sym c.in-Some.is) (read c.in_ok-maps_of.ensures.maps)
+    subst (λ (types : Option TypeTable). HasVariables c.args.object.now types (Ok c.in_ok-maps_of-in-Some.field-0)) (sym c.in-Some.is) (read c.in_ok-maps_of-in-Some.ensures.maps)
