@@ -1,0 +1,14 @@
+pub mod Counts
+pub mod Ranges
+pub mod Readings
+pub mod Items
+pub mod Ordering
+pub mod ProgramSymbols
+pub mod Drafting
+pub mod Refusals
+pub mod ConstantMaps
+pub mod Addressing
+pub mod Fixing
+pub mod Marks
+pub mod Linked
+pub mod OneAnswer

@@ -1,0 +1,10 @@
+pub mod Ends
+pub mod Reading
+pub mod Sections
+pub mod Symbols
+pub mod Types
+pub mod Maps
+pub mod Code
+pub mod Layout
+pub mod Linking
+pub mod Load
