@@ -3,7 +3,6 @@ use Rattle.std.proofs.Common.{◌≡◌, ◌≤◌, ◌*◌, List, ℕ, length, 
 use Rattle.bpf_insn.specs.declared.insn.Insn.{Insn}
 use Rattle.bpf_insn.specs.Code.{IsCode}
 use Rattle.elf_objects.specs.Symbol.{symbol}
-use Rattle.object_load.specs.declared.drafts.Draft.{Draft}
 use Rattle.object_load.specs.declared.drafts.Function.{Function}
 use Rattle.object_load.specs.declared.refusal.SlotEnd.{SlotEnd}
 use Rattle.object_load.specs.declared.refusal.SlotEnd.TheVariants as slots

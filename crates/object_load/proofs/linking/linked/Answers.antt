@@ -1,4 +1,4 @@
-use Rattle.std.proofs.Common.{◌≡◌, Bool, List, Some, None, Ok, Err, ◌++◌, ◌/◌, false, get_or, ap, sym, ◌∙◌}
+use Rattle.std.proofs.Common.{◌≡◌, Bool, List, Some, None, ◌++◌, ◌/◌, false, get_or, ap, sym, ◌∙◌}
 use Rattle.bpf_insn.specs.declared.insn.Insn.{Insn}
 use Rattle.elf_objects.specs.declared.reloc.Reloc.{Reloc}
 use Rattle.object_load.specs.declared.pieces.Piece.TheVariants.{Own}

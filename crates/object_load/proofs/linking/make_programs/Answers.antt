@@ -1,4 +1,4 @@
-use Rattle.std.proofs.Common.{◌≡◌, ℕ, length, List, Ok, Some, refl, arith, rules}
+use Rattle.std.proofs.Common.{◌≡◌, length, Ok, Some, refl, arith, rules}
 use Rattle.std.specs.List.{slice_get}
 use Rattle.std.proofs.lemmas.Option.{slice_get_read}
 use Rattle.object_load.specs.declared.refusal.LoadRefusal.TheVariants.{BadReloc}

@@ -1,6 +1,6 @@
-use Rattle.std.proofs.Common.{get_or, sym, ap, ◌++◌, ◌∙◌, arith}
+use Rattle.std.proofs.Common.{arith}
 use Rattle.std.proofs.lemmas.Result.{err_from_is_err_and}
-use Rattle.object_load.proofs.ConstantMaps.{constants_kept, constants_pushed, made_all, refused_at}
+use Rattle.object_load.proofs.ConstantMaps.{made_all, refused_at}
 use Rattle.object_load.proofs.maps.with_constants.Goals as goal
 
 pub returns-in_err-push_constants-clause-maps : goal.returns-in_err-push_constants-clause-maps

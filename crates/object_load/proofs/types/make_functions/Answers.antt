@@ -1,6 +1,5 @@
 use Rattle.std.proofs.Common.{List, ℕ, Ok, Err, get_or, refl, subst, arith}
 use Rattle.std.proofs.lemmas.Option.{slice_get-get_or}
-use Rattle.elf_objects.specs.Object.{symbol_name}
 use Rattle.object_load.specs.Symbols.{IsProgram}
 use Rattle.object_load.specs.Types.{config_refusal, HasConfig, IsFunction}
 use Rattle.object_load.proofs.Items.{all_more, all_start, each_all, each_first, paired_more, paired_start}

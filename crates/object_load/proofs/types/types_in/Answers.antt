@@ -1,4 +1,4 @@
-use Rattle.std.proofs.Common.{Err, ap, sym, ◌∙◌}
+use Rattle.std.proofs.Common.{Err, ap, sym}
 use Rattle.std.proofs.lemmas.Result.{err_from_is_err_and}
 use Rattle.object_load.proofs.Refusals.{types_made, types_none, types_refused}
 use Rattle.object_load.proofs.types.types_in.Goals as goal
