@@ -1,0 +1,9 @@
+pub mod Accepting
+pub mod Replays
+pub mod Rows
+pub mod Rules
+pub mod Seen
+pub mod Turns
+pub mod Values
+pub mod Walking
+pub mod Reading
