@@ -82,7 +82,7 @@ words_read words utf8 =
 agree : (passes : Bool) (rows : List Row) (taken : Bool) (given : List Given)
     → cond passes (Some rows) None ≡ option_map rows_for (cond taken (Some given) None)
     → (passes ≡ taken) × (taken ≡ true → rows ≡ rows_for given)
-agree true rows true given e = (refl, λ yes. ap (λ (o : Option (List Row)). unwrap_or o rows) e)
+agree true rows true given e = (refl, λ same. ap (λ (o : Option (List Row)). unwrap_or o rows) e)
 agree true rows false given e = absurd (true≢false (ap (λ (o : Option (List Row)). is_some o) e))
 agree false rows true given e = absurd (true≢false (sym (ap (λ (o : Option (List Row)). is_some o) e)))
 agree false rows false given e = (refl, λ never. absurd (true≢false (sym never)))
@@ -140,11 +140,11 @@ finds words m utf8 none matches =
       taken = taken;
       script = first_value-rows (found_of m) (codes "script") ∙ ap (first_of (codes "script")) rows ∙ positional_value (given_by words) known;
       capture = first_value-rows (found_of m) (codes "capture") ∙ ap (first_of (codes "capture")) rows
-        ∙ option_value (codes "capture") refl (given_by words) known;
+          ∙ option_value (codes "capture") refl (given_by words) known;
       trace = first_value-rows (found_of m) (codes "trace") ∙ ap (first_of (codes "trace")) rows
-        ∙ option_value (codes "trace") refl (given_by words) known;
+          ∙ option_value (codes "trace") refl (given_by words) known;
       replay = first_value-rows (found_of m) (codes "replay") ∙ ap (first_of (codes "replay")) rows
-        ∙ option_value (codes "replay") refl (given_by words) known;
+          ∙ option_value (codes "replay") refl (given_by words) known;
     }
 
 among_some : (k : ErrorKind) (kinds : Kinds) → IsAmong k kinds → is_nil kinds ≡ false

@@ -58,10 +58,10 @@ pub pending_stands : (its : List Given) (next : Given) → list_all is_known its
 pending_stands its next known one = record {
   skip = refl;
   fault = ap (λ (found : Option Rule). is_nil (option_map_or (λ (a : Rule). use_fault false a (text_of next ∷ []) (rows_for its)) found []))
-    (rule_by_id next one)
-    ∙ use_passes (id_of next) (long_in next) (index_in next) (text_of next) (rows_for its) ∙ ap not (has_row_is next its one known);
+      (rule_by_id next one)
+      ∙ use_passes (id_of next) (long_in next) (index_in next) (text_of next) (rows_for its) ∙ ap not (has_row_is next its one known);
   settles = λ new. ap (λ (found : Option Rule). holding (used_by_id found (text_of next ∷ []) (rows_for its)) None) (rule_by_id next one)
-    ∙ ap (λ rows. holding rows None) (rows_used its next known one (is_new _ new));
+      ∙ ap (λ (rows : List Row). holding rows None) (rows_used its next known one (is_new _ new));
   known = λ new. known_more its next known one;
 }
 
@@ -113,9 +113,6 @@ refuses_unknown false its next rest none = refl
 refuses_unknown true its next rest none =
     ap (λ known. option_map rows_for (cond (known && not (stands_in next its)) (accepted (its ++ next ∷ []) rest) None)) none
 
-refuses_all : (its rest : List Given) → wanted false its rest ≡ None
-refuses_all its rest = refl
-
 -- a name that is no option's gives nothing that is accepted
 unknown_waits : (ok : Bool) (its : List Given) (name : Text) (words : List Text) → is_option name ≡ false
     → wanted ok its (given_behind words (Some name)) ≡ None
@@ -144,11 +141,11 @@ at_end h ok its waiting taken trailing stands =
 
 -- ---- the positional word
 
-abbrev Reads : Held → Waiting → Bool → Bool → Bool → List Given → List Text → List Given → Type 0
+abbrev pub Reads : Held → Waiting → Bool → Bool → Bool → List Given → List Text → List Given → Type 0
 Reads h waiting taken trailing ok its words given = outcome (at h waiting taken trailing) words ≡ wanted ok its given
 
 -- what is read behind a positional word
-abbrev Behind : Bool → List Text → List Given → Type 0
+abbrev pub Behind : Bool → List Text → List Given → Type 0
 Behind trailing words given = (h : Held) (ok : Bool) (its : List Given) (taken : Bool) → Stands h ok its → IsMarked ok taken its
     → Reads h idle taken trailing ok its words given
 
@@ -184,7 +181,7 @@ trailing_reads (word ∷ words) h waiting ok its taken stands mark =
 -- ---- options
 
 -- what is read behind a name that waits for its value
-abbrev BehindName : List Text → Type 0
+abbrev pub BehindName : List Text → Type 0
 BehindName words = (its : List Given) (name : Text) (taken : Bool) → list_all is_known its ≡ true → is_option name ≡ true
     → taken ≡ list_any is_positional its
     → outcome (at (holding (rows_for its) (Some (name, []))) (waiting_for name) taken false) words
@@ -210,7 +207,7 @@ module _ (h : Held) (ok : Bool) (its : List Given) (taken : Bool) (word : Text) 
       new_reads true is is_so is_marked = refl
       new_reads false is is_so is_marked =
           behind _ true (its ++ option name text ∷ []) taken (used_stands h its name text is_so one is)
-          (λ yes. is_marked refl ∙ sym (unmarked its name text))
+          (λ ok. is_marked refl ∙ sym (unmarked its name text))
 
       go : (b : Bool) → Stands h b its → IsMarked b taken its
           → cond (b && is_nil (use_fault false (option_built name) (text ∷ []) (settled rules h).rows)) (after_value name text) None
@@ -261,7 +258,7 @@ waiting_stands : (its : List Given) (name : Text) → is_option name ≡ true
     → Stands (holding (rows_for its) (Some (name, []))) false its
 waiting_stands its name one = record {
   skip = refl;
-  fault = rw (rule_by_id (option name []) one) refl;
+  fault = ap (λ (found : Option Rule). is_nil (option_map_or (λ (a : Rule). use_fault false a [] (rows_for its)) found [])) (rule_by_id (option name []) one);
   settles = λ never. absurd (true≢false (sym never));
   known = λ never. absurd (true≢false (sym never));
 }
