@@ -1,4 +1,6 @@
 pub mod Accepting
+pub mod Made
+pub mod Reading
 pub mod Replays
 pub mod Rows
 pub mod Rules
@@ -6,4 +8,3 @@ pub mod Seen
 pub mod Turns
 pub mod Values
 pub mod Walking
-pub mod Reading
