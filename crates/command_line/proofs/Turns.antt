@@ -75,7 +75,7 @@ pub is_nil-or_else : (a b : Kinds) → is_nil (or_else a b) ≡ (is_nil a && is_
 is_nil-or_else [] b = refl
 is_nil-or_else (k ∷ ks) b = refl
 
-or_else-nil : (a : Kinds) → or_else a [] ≡ a
+pub or_else-nil : (a : Kinds) → or_else a [] ≡ a
 or_else-nil [] = refl
 or_else-nil (k ∷ ks) = refl
 
