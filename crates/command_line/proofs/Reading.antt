@@ -1,5 +1,5 @@
 -- What the parse of the command gives, by what the words give.
-use Rattle.std.proofs.Common.{◌≡◌, ◌≢◌, ◌&&◌, ◌||◌, Bool, cond, true, false, List, [], ◌∷◌, Option, Some, None, codes, fold, is_some, option_map, refl, sym, subst, ap, ◌∙◌, ⊎_elim, true≢false, String, unwrap_or}
+use Rattle.std.proofs.Common.{◌≡◌, ◌≢◌, ◌&&◌, ◌||◌, ℕ, Bool, cond, true, false, List, [], ◌∷◌, Option, Some, None, codes, fold, is_some, option_map, refl, sym, subst, ap, ◌∙◌, ⊎_elim, true≢false, String, unwrap_or}
 use Rattle.std.specs.Prelude.{⊤}
 use Rattle.std.proofs.lemmas.Bool.{and_parts}
 use Rattle.std.proofs.lemmas.Str.{IsUtf8-string_bytes}
@@ -58,7 +58,7 @@ both_ways : {X : Type 0} (b : Bool) (x : X) → cond b x x ≡ x
 both_ways true x = refl
 both_ways false x = refl
 
-single_none : (id : Text) (long : Option Text) (index : Option _) → HasNone (single id long index)
+single_none : (id : Text) (long : Option Text) (index : Option ℕ) → HasNone (single id long index)
 single_none id long index rows = (
   either_way (has_row id rows) [] (given_default_fault (single id long index) []),
   both_ways (has_row id rows) rows,
