@@ -21,7 +21,7 @@ use Rattle.command_line.specs.Given.{Given, are_taken, given_by}
 use Rattle.command_line.specs.Words.{Text, texts_of}
 use Rattle.command_line.proofs.Accepting.{accepted-taken}
 use Rattle.command_line.proofs.Rows.{is_nil, rows_for}
-use Rattle.command_line.proofs.Rules.{built_is, command_built, rules, shape, simple, simple_and_free, single}
+use Rattle.command_line.proofs.Rules.{built_is, command_built, option_built, rules, shape, simple, simple_and_free, single}
 use Rattle.command_line.proofs.Turns.{at, is_nil-or_else, or_else-nil, outcome}
 use Rattle.command_line.proofs.Values.{option_value, positional_value}
 use Rattle.command_line.proofs.Walking.{AreTexts, Stands, walk_reads}
@@ -64,8 +64,14 @@ single_none id long index rows = (
   both_ways (has_row id rows) rows,
 )
 
+option_none : (name : Text) → HasNone (option_built name)
+option_none name = single_none name (Some name) None
+
 rules_none : AllHaveNone rules
-rules_none = (single_none _ _ _, (single_none _ _ _, (single_none _ _ _, (single_none _ _ _, tt))))
+rules_none = (
+  option_none (codes "capture"),
+  (option_none (codes "trace"), (option_none (codes "replay"), (single_none (codes "script") None (Some 1), tt))),
+)
 
 -- ---- the walk from nothing
 

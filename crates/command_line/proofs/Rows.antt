@@ -36,7 +36,8 @@ pub first_use : (id : Text) (long : Option Text) (index : Option ℕ) (text : Te
     → used (single id long index) (text ∷ []) rows ≡ rows ++ row_with id text ∷ []
 first_use id long index text rows none =
     let gone : without id rows ≡ rows = at_new id (λ _. []) [] rows none ∙ append-nil rows in
-    ap (at_row id (more_values CommandLine (text ∷ [])) (row_with id text ∷ [])) gone ∙ at_new id _ _ rows none
+    ap (at_row id (more_values CommandLine (text ∷ [])) (row_with id text ∷ [])) gone
+    ∙ at_new id (more_values CommandLine (text ∷ [])) (row_with id text ∷ []) rows none
 
 pub use_passes : (id : Text) (long : Option Text) (index : Option ℕ) (text : Text) (rows : List Row)
     → is_nil (use_fault false (single id long index) (text ∷ []) rows) ≡ not (has_row id rows)

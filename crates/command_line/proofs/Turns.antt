@@ -1,5 +1,5 @@
 -- One word's turn in the walk of `clap`, by what the word is.
-use Rattle.std.proofs.Common.{◌≡◌, ◌&&◌, ◌++◌, ◌<◌, ℕ, Bool, cond, true, false, not, zero, suc, List, [], ◌∷◌, Option, Some, None, drop, length, get_or, fold, codes, refl, sym, ap, ap₂, ◌∙◌, arith, IsUtf8, slice_get}
+use Rattle.std.proofs.Common.{◌≡◌, ◌&&◌, ◌||◌, ◌++◌, ◌<◌, ℕ, Bool, cond, true, false, not, zero, suc, List, [], ◌∷◌, Option, Some, None, drop, length, get_or, fold, codes, refl, sym, ap, ap₂, ◌∙◌, arith, IsUtf8, slice_get}
 use Rattle.std.specs.Str.{bytes_eq, chars}
 use Rattle.std.proofs.lemmas.Slice.Eq.{bytes_eq-Decides}
 use Rattle.clap.specs.Faults.{bundle_fault, flags_fault, settle_fault, step_fault, turn_fault, use_fault, walk_fault, word_fault}
