@@ -1,5 +1,5 @@
 -- The walk of `clap` over words, and what the words give.
-use Rattle.std.proofs.Common.{◌≡◌, ◌&&◌, ◌||◌, ◌++◌, ℕ, Bool, cond, true, false, not, List, [], ◌∷◌, map, Option, Some, None, codes, fold, option_map, refl, sym, ap, ap₂, ◌∙◌, subst, append-nil, true≢false, IsUtf8}
+use Rattle.std.proofs.Common.{◌≡◌, ◌&&◌, ◌||◌, ◌++◌, Bool, cond, true, false, not, List, [], ◌∷◌, map, Option, Some, None, codes, option_map, refl, sym, ap, ◌∙◌, true≢false, IsUtf8}
 use Rattle.std.specs.Prelude.{⊤}
 use Rattle.std.specs.List.{list_all, list_any}
 use Rattle.std.specs.Option.{option_map_or}
@@ -9,10 +9,10 @@ use Rattle.std.proofs.lemmas.List.Folds.{list_any-append}
 use Rattle.clap.specs.Faults.{settle_fault, use_fault}
 use Rattle.clap.specs.Walk.{Held, Row, Rule, Waiting, has_row, idle, pushed, reacted, settled, used, used_by_id}
 use Rattle.clap.specs.Walk.{option as waiting_for}
-use Rattle.command_line.specs.Given.{Given, given_at, given_behind, is_again, is_known, is_option, option, positional, refused, value_at}
+use Rattle.command_line.specs.Given.{Given, given_at, given_behind, is_known, is_option, option, positional, refused, value_at}
 use Rattle.command_line.specs.Words.{Text, Word, separator, named, flag, plain, word_of}
 use Rattle.command_line.proofs.Accepting.{accepted, is_positional, positional_stands, stands_in}
-use Rattle.command_line.proofs.Rows.{first_use, has_row_is, is_nil, row_for, row_with, rows_for, use_passes}
+use Rattle.command_line.proofs.Rows.{first_use, has_row_is, is_nil, row_for, rows_for, use_passes}
 use Rattle.command_line.proofs.Rules.{id_of, index_in, long_in, option_built, rule_by_id, rule_for, rules, text_of}
 use Rattle.command_line.proofs.Seen.{IsSeen, seen}
 use Rattle.command_line.proofs.Turns.{GoesOn, at, awaited_leads, awaited_passes, flag_fails, holding, name_leads, name_passes, outcome, outcome_end, passes, plain_goes, positional_leads, positional_passes, second_fails, separator_leads, separator_passes, stopped_at, trailing_goes, turned, unknown_fails, value_leads, value_passes}

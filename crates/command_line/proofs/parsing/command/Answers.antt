@@ -1,6 +1,6 @@
 use Rattle.std.proofs.Common.{ap, codes, ◌∙◌}
 use Rattle.std.proofs.lemmas.Result.{IfOk-weaker}
-use Rattle.clap.specs.Simple.{new_rule, with_rule}
+use Rattle.clap.specs.Simple.{new_rule}
 use Rattle.clap.specs.declared.builder.arg.Arg.{Arg}
 use Rattle.command_line.specs.Command.{command, empty_command, option_rule}
 use Rattle.command_line.proofs.Made.{option_made, rule_added, without_flags}
