@@ -48,10 +48,6 @@ use_passes id long index text rows = go (has_row id rows) refl
     go true e = rw e refl
     go false e = rw e refl
 
-pub no_value_fails : (id : Text) (long : Option Text) (index : Option ℕ) (rows : List Row)
-    → is_nil (use_fault false (single id long index) [] rows) ≡ false
-no_value_fails id long index rows = refl
-
 -- ---- the same thing given again
 
 same_id : (given earlier : Given) → is_known given ≡ true → is_known earlier ≡ true
