@@ -1,0 +1,10 @@
+pub mod Accepting
+pub mod Made
+pub mod Reading
+pub mod Replays
+pub mod Rows
+pub mod Rules
+pub mod Seen
+pub mod Turns
+pub mod Values
+pub mod Walking
