@@ -1,10 +1,10 @@
 -- What the parse of the command gives, by what the words give.
-use Rattle.std.proofs.Common.{◌≡◌, ◌≢◌, ◌&&◌, ◌||◌, Bool, cond, true, false, List, [], ◌∷◌, Option, Some, None, codes, fold, is_some, option_map, refl, sym, subst, ap, ◌∙◌, ⊎_elim, true≢false, String, unwrap_or}
+use Rattle.std.proofs.Common.{◌≡◌, ◌≢◌, ◌&&◌, ◌||◌, ℕ, Bool, cond, true, false, List, [], ◌∷◌, Option, Some, None, codes, fold, is_some, option_map, refl, sym, subst, ap, ◌∙◌, ⊎_elim, true≢false, String, unwrap_or}
 use Rattle.std.specs.Prelude.{⊤}
 use Rattle.std.proofs.lemmas.Bool.{and_parts}
 use Rattle.std.proofs.lemmas.Str.{IsUtf8-string_bytes}
 use Rattle.clap.specs.Faults.{built_fault, default_fault, defaults_fault, fault_of, given_default_fault, is_simple_and_free, level_fault, settle_fault, walk_fault}
-use Rattle.clap.specs.Kinds.{FailsBy, HasKind, IsAmong, Kinds, or_else}
+use Rattle.clap.specs.Kinds.{HasKind, IsAmong, Kinds, or_else}
 use Rattle.clap.specs.Matches.{found_of}
 use Rattle.clap.specs.Simple.{App, HasMatchesOf, matches_of, names_of}
 use Rattle.clap.specs.Values.{kind_of}
@@ -21,7 +21,7 @@ use Rattle.command_line.specs.Given.{Given, are_taken, given_by}
 use Rattle.command_line.specs.Words.{Text, texts_of}
 use Rattle.command_line.proofs.Accepting.{accepted-taken}
 use Rattle.command_line.proofs.Rows.{is_nil, rows_for}
-use Rattle.command_line.proofs.Rules.{built_is, command_built, rules, shape, simple, simple_and_free, single}
+use Rattle.command_line.proofs.Rules.{built_is, command_built, option_built, rules, shape, simple, simple_and_free, single}
 use Rattle.command_line.proofs.Turns.{at, is_nil-or_else, or_else-nil, outcome}
 use Rattle.command_line.proofs.Values.{option_value, positional_value}
 use Rattle.command_line.proofs.Walking.{AreTexts, Stands, walk_reads}
@@ -58,14 +58,20 @@ both_ways : {X : Type 0} (b : Bool) (x : X) → cond b x x ≡ x
 both_ways true x = refl
 both_ways false x = refl
 
-single_none : (id : Text) (long : Option Text) (index : Option _) → HasNone (single id long index)
+single_none : (id : Text) (long : Option Text) (index : Option ℕ) → HasNone (single id long index)
 single_none id long index rows = (
   either_way (has_row id rows) [] (given_default_fault (single id long index) []),
   both_ways (has_row id rows) rows,
 )
 
+option_none : (name : Text) → HasNone (option_built name)
+option_none name = single_none name (Some name) None
+
 rules_none : AllHaveNone rules
-rules_none = (single_none _ _ _, (single_none _ _ _, (single_none _ _ _, (single_none _ _ _, tt))))
+rules_none = (
+  option_none (codes "capture"),
+  (option_none (codes "trace"), (option_none (codes "replay"), (single_none (codes "script") None (Some 1), tt))),
+)
 
 -- ---- the walk from nothing
 

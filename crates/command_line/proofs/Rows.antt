@@ -1,5 +1,5 @@
 -- The rows of what was given, and what one more use of an argument makes of them.
-use Rattle.std.proofs.Common.{◌≡◌, ◌&&◌, ◌||◌, ◌++◌, ℕ, Bool, true, false, not, List, [], ◌∷◌, map, Option, Some, None, codes, refl, sym, ap, ap₂, ◌∙◌, append-nil, true≢false}
+use Rattle.std.proofs.Common.{◌≡◌, ◌||◌, ◌++◌, ℕ, Bool, true, false, not, List, [], ◌∷◌, map, Option, Some, None, refl, sym, ap, ap₂, ◌∙◌, append-nil, true≢false}
 use Rattle.std.specs.List.{list_all, list_any}
 use Rattle.std.specs.Str.{bytes_eq}
 use Rattle.std.proofs.lemmas.Bool.{and_parts, or_parts}
@@ -36,7 +36,8 @@ pub first_use : (id : Text) (long : Option Text) (index : Option ℕ) (text : Te
     → used (single id long index) (text ∷ []) rows ≡ rows ++ row_with id text ∷ []
 first_use id long index text rows none =
     let gone : without id rows ≡ rows = at_new id (λ _. []) [] rows none ∙ append-nil rows in
-    ap (at_row id (more_values CommandLine (text ∷ [])) (row_with id text ∷ [])) gone ∙ at_new id _ _ rows none
+    ap (at_row id (more_values CommandLine (text ∷ [])) (row_with id text ∷ [])) gone
+    ∙ at_new id (more_values CommandLine (text ∷ [])) (row_with id text ∷ []) rows none
 
 pub use_passes : (id : Text) (long : Option Text) (index : Option ℕ) (text : Text) (rows : List Row)
     → is_nil (use_fault false (single id long index) (text ∷ []) rows) ≡ not (has_row id rows)

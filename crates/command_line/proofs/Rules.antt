@@ -9,7 +9,7 @@ use Rattle.clap.specs.declared.builder.action.ArgAction.TheVariants.{Set}
 use Rattle.clap.specs.declared.builder.range.ValueRange.{ValueRange}
 use Rattle.clap.specs.declared.builder.value_parser.ValueParser.TheVariants as parser
 use Rattle.command_line.specs.Command.{command}
-use Rattle.command_line.specs.Given.{Given, is_known, is_option, option, option_names, positional, refused}
+use Rattle.command_line.specs.Given.{Given, is_known, is_option, option, positional, refused}
 use Rattle.command_line.specs.Words.{Text}
 
 abbrev pub one_value : ValueRange

@@ -1,5 +1,5 @@
 -- What `clap` sees of a word, by what the word is.
-use Rattle.std.proofs.Common.{◌≡◌, ◌<◌, ◌≤◌, ◌==◌, ℕ, Bool, true, false, List, [], ◌∷◌, Option, Some, None, drop, length, get_or, refl, sym, ap, ◌∙◌, arith, IsUtf8, slice_get, true≢false}
+use Rattle.std.proofs.Common.{◌≡◌, ◌<◌, ◌==◌, ℕ, Bool, true, false, List, [], ◌∷◌, Some, None, drop, length, get_or, refl, sym, ap, ◌∙◌, arith, IsUtf8, slice_get}
 use Rattle.std.specs.Str.{bytes_eq, chars}
 use Rattle.std.proofs.lemmas.Bool.Decides.{nat_tests}
 use Rattle.std.proofs.lemmas.Str.{IsUtf8-drop, IsCharBoundary-after_ascii, encodes-chars}
@@ -25,23 +25,23 @@ is_hyphen x e = grind (arith, nat_tests)
 
 one_byte : (x : ℕ) (b : Bool) → (x == 45) ≡ b → IsSeen (x ∷ []) (word_of (x ∷ []))
 unfolding word_of
-one_byte x true e = rw (e, flipped x true e) (refl, refl, refl)
-one_byte x false e = rw (e, flipped x false e) (refl, refl, refl)
+one_byte x true e = rw (e, flipped x true e) (rw e refl, rw e refl, rw e refl)
+one_byte x false e = rw (e, flipped x false e) (rw e refl, rw e refl, rw e refl)
 
 two_bytes : (x y : ℕ) (b d : Bool) → (x == 45) ≡ b → (y == 45) ≡ d → IsSeen (x ∷ y ∷ []) (word_of (x ∷ y ∷ []))
 unfolding word_of
-two_bytes x y true true ex ey = rw (ex, ey) refl
-two_bytes x y true false ex ey =
-    rw (ex, ey, flipped x true ex, flipped y false ey) (refl, refl, refl, is_hyphen x ex, omega arith)
-two_bytes x y false d ex ey = rw (ex, flipped x false ex) (refl, refl, refl)
+two_bytes x y true true ex ey = rw (ex, ey) (rw (ex, ey) refl)
+two_bytes x y true false ex ey = rw (ex, ey, flipped x true ex, flipped y false ey)
+    (rw (ex, ey) refl, rw (ex, ey) refl, rw (ex, ey) refl, is_hyphen x ex, omega arith)
+two_bytes x y false d ex ey = rw (ex, flipped x false ex) (rw ex refl, rw ex refl, rw ex refl)
 
 more_bytes : (x y z : ℕ) (rest : Text) (b d : Bool) → (x == 45) ≡ b → (y == 45) ≡ d
     → IsSeen (x ∷ y ∷ z ∷ rest) (word_of (x ∷ y ∷ z ∷ rest))
 unfolding word_of
-more_bytes x y z rest true true ex ey = rw (ex, ey, flipped x true ex, flipped y true ey) (refl, refl)
-more_bytes x y z rest true false ex ey =
-    rw (ex, ey, flipped x true ex, flipped y false ey) (refl, refl, refl, is_hyphen x ex, omega arith)
-more_bytes x y z rest false d ex ey = rw (ex, flipped x false ex) (refl, refl, refl)
+more_bytes x y z rest true true ex ey = rw (ex, ey, flipped x true ex, flipped y true ey) (rw (ex, ey) refl, rw (ex, ey) refl)
+more_bytes x y z rest true false ex ey = rw (ex, ey, flipped x true ex, flipped y false ey)
+    (rw (ex, ey) refl, rw (ex, ey) refl, rw (ex, ey) refl, is_hyphen x ex, omega arith)
+more_bytes x y z rest false d ex ey = rw (ex, flipped x false ex) (rw ex refl, rw ex refl, rw ex refl)
 
 pub seen : (word : Text) → IsSeen word (word_of word)
 unfolding word_of

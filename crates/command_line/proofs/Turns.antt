@@ -1,5 +1,5 @@
 -- One word's turn in the walk of `clap`, by what the word is.
-use Rattle.std.proofs.Common.{◌≡◌, ◌&&◌, ◌++◌, ◌<◌, ℕ, Bool, cond, true, false, not, zero, suc, List, [], ◌∷◌, Option, Some, None, drop, length, get_or, fold, codes, refl, sym, ap, ap₂, ◌∙◌, arith, IsUtf8, slice_get}
+use Rattle.std.proofs.Common.{◌≡◌, ◌&&◌, ◌||◌, ◌<◌, ℕ, Bool, cond, true, false, List, [], ◌∷◌, Option, Some, None, drop, length, get_or, fold, codes, refl, ap, ap₂, ◌∙◌, arith, IsUtf8, slice_get}
 use Rattle.std.specs.Str.{bytes_eq, chars}
 use Rattle.std.proofs.lemmas.Slice.Eq.{bytes_eq-Decides}
 use Rattle.clap.specs.Faults.{bundle_fault, flags_fault, settle_fault, step_fault, turn_fault, use_fault, walk_fault, word_fault}
@@ -10,7 +10,7 @@ use Rattle.clap.specs.Walk.{option as waiting_for, positional as waiting_more}
 use Rattle.clap.specs.declared.error.kind.ErrorKind.TheVariants.{UnknownArgument}
 use Rattle.command_line.specs.Given.{is_option}
 use Rattle.command_line.specs.Words.{Text}
-use Rattle.command_line.proofs.Rows.{is_nil, no_value_fails, rows_for, use_passes}
+use Rattle.command_line.proofs.Rows.{is_nil}
 use Rattle.command_line.proofs.Rules.{option_built, option_by_id, option_by_long, rules, script_built, shape, unknown_by_long}
 use Rattle.command_line.proofs.Seen.{behind, flag_char, hyphens}
 
@@ -75,7 +75,7 @@ pub is_nil-or_else : (a b : Kinds) → is_nil (or_else a b) ≡ (is_nil a && is_
 is_nil-or_else [] b = refl
 is_nil-or_else (k ∷ ks) b = refl
 
-or_else-nil : (a : Kinds) → or_else a [] ≡ a
+pub or_else-nil : (a : Kinds) → or_else a [] ≡ a
 or_else-nil [] = refl
 or_else-nil (k ∷ ks) = refl
 

@@ -1,5 +1,5 @@
 -- The walk of `clap` over words, and what the words give.
-use Rattle.std.proofs.Common.{◌≡◌, ◌&&◌, ◌||◌, ◌++◌, ℕ, Bool, cond, true, false, not, List, [], ◌∷◌, map, Option, Some, None, codes, fold, option_map, refl, sym, ap, ap₂, ◌∙◌, subst, append-nil, true≢false, IsUtf8}
+use Rattle.std.proofs.Common.{◌≡◌, ◌&&◌, ◌||◌, ◌++◌, Bool, cond, true, false, not, List, [], ◌∷◌, map, Option, Some, None, codes, option_map, refl, sym, ap, ◌∙◌, true≢false, IsUtf8}
 use Rattle.std.specs.Prelude.{⊤}
 use Rattle.std.specs.List.{list_all, list_any}
 use Rattle.std.specs.Option.{option_map_or}
@@ -9,10 +9,10 @@ use Rattle.std.proofs.lemmas.List.Folds.{list_any-append}
 use Rattle.clap.specs.Faults.{settle_fault, use_fault}
 use Rattle.clap.specs.Walk.{Held, Row, Rule, Waiting, has_row, idle, pushed, reacted, settled, used, used_by_id}
 use Rattle.clap.specs.Walk.{option as waiting_for}
-use Rattle.command_line.specs.Given.{Given, given_at, given_behind, is_again, is_known, is_option, option, positional, refused, value_at}
+use Rattle.command_line.specs.Given.{Given, given_at, given_behind, is_known, is_option, option, positional, refused, value_at}
 use Rattle.command_line.specs.Words.{Text, Word, separator, named, flag, plain, word_of}
 use Rattle.command_line.proofs.Accepting.{accepted, is_positional, positional_stands, stands_in}
-use Rattle.command_line.proofs.Rows.{first_use, has_row_is, is_nil, row_for, row_with, rows_for, use_passes}
+use Rattle.command_line.proofs.Rows.{first_use, has_row_is, is_nil, row_for, rows_for, use_passes}
 use Rattle.command_line.proofs.Rules.{id_of, index_in, long_in, option_built, rule_by_id, rule_for, rules, text_of}
 use Rattle.command_line.proofs.Seen.{IsSeen, seen}
 use Rattle.command_line.proofs.Turns.{GoesOn, at, awaited_leads, awaited_passes, flag_fails, holding, name_leads, name_passes, outcome, outcome_end, passes, plain_goes, positional_leads, positional_passes, second_fails, separator_leads, separator_passes, stopped_at, trailing_goes, turned, unknown_fails, value_leads, value_passes}
@@ -124,7 +124,7 @@ unknown_waits ok its name (word ∷ words) none = go (word_of word)
     go separator = refuses_unknown ok its refused [] refl
     go (named other text) = refuses_unknown ok its refused [] refl
     go flag = refuses_unknown ok its refused [] refl
-    go plain = refuses_unknown ok its (option name word) _ none
+    go plain = refuses_unknown ok its (option name word) (given_behind words None) none
 
 -- ---- the end
 
@@ -196,7 +196,7 @@ module _ (h : Held) (ok : Bool) (its : List Given) (taken : Bool) (word : Text) 
       → Reads h idle taken false ok its (word ∷ words) (option name text ∷ given_behind words None)
   value_reads name text false none see =
       stopped_at _ word words (unknown_fails h idle taken word name (Some text) see.0 see.1 none)
-      ∙ sym (refuses_unknown ok its (option name text) _ none)
+      ∙ sym (refuses_unknown ok its (option name text) (given_behind words None) none)
   value_reads name text true one see =
       turned _ _ word words _ (value_passes h idle taken word name text see.0 see.1 one) (value_leads h idle taken word name text see.0 see.1 one)
       ∙ ap (λ b. cond (b && is_nil (use_fault false (option_built name) (text ∷ []) (settled rules h).rows)) (after_value name text) None) stands.fault
@@ -206,7 +206,7 @@ module _ (h : Held) (ok : Bool) (its : List Given) (taken : Bool) (word : Text) 
           → cond (not again) (after_value name text) None ≡ wanted (not again) (its ++ option name text ∷ []) (given_behind words None)
       new_reads true is is_so is_marked = refl
       new_reads false is is_so is_marked =
-          behind _ true (its ++ option name text ∷ []) taken (used_stands h its name text is_so one is)
+          behind (reacted rules (option_built name) (text ∷ []) h) true (its ++ option name text ∷ []) taken (used_stands h its name text is_so one is)
           (λ ok. is_marked refl ∙ sym (unmarked its name text))
 
       go : (b : Bool) → Stands h b its → IsMarked b taken its
@@ -215,11 +215,11 @@ module _ (h : Held) (ok : Bool) (its : List Given) (taken : Bool) (word : Text) 
       go false is_so is_marked = refl
       go true is_so is_marked =
           ap (λ b. cond b (after_value name text) None)
-          (use_passes name _ _ text (settled rules h).rows
+          (use_passes name (Some name) None text (settled rules h).rows
           ∙ ap (λ (held : Held). not (has_row name held.rows)) (is_so.settles refl)
           ∙ ap not (has_row_is (option name text) its one (is_so.known refl)))
           ∙ new_reads (stands_in (option name text) its) refl is_so is_marked
-          ∙ sym (accepts_next its (option name text) _ one)
+          ∙ sym (accepts_next its (option name text) (given_behind words None) one)
 
   name_reads : (name : Text) (known : Bool) → is_option name ≡ known → IsSeen word (named name None)
       → Reads h idle taken false ok its (word ∷ words) (given_behind words (Some name))

@@ -1,5 +1,5 @@
 -- The files that the words of a command line name.
-use Rattle.std.specs.Prelude.{ℕ, ◌==◌, ◌&&◌, Bool, true, false, not, List, length, Option, Some, None, option_map, option_and_then, codes, bytes_eq, if◌then◌else◌}
+use Rattle.std.specs.Prelude.{◌==◌, ◌&&◌, Bool, false, not, List, length, Option, Some, None, option_map, option_and_then, codes, bytes_eq, if◌then◌else◌}
 use Rattle.command_line.specs.Given.{Given, are_taken, given_by, positional_of, value_of}
 use Rattle.command_line.specs.Words.{Text}
 use Rattle.command_line.specs.declared.names.FileNames.{FileNames}
