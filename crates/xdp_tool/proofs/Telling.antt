@@ -1,15 +1,17 @@
 -- What a run promises by its end, and by what is said of it.
-use Rattle.std.proofs.Common.{◌≡◌, ◌⊎◌, ℕ, Bool, true, false, inl, inr, List, [], append-nil, Result, Ok, Err, Option, Some, None, IfSome, OnOk, refl, sym, ap, ◌∙◌}
+use Rattle.std.proofs.Common.{◌≡◌, ◌⊎◌, ℕ, Bool, true, false, inl, inr, List, [], append-nil, length, Result, Ok, Err, Option, Some, None, IfSome, OnOk, refl, sym, ap, ◌∙◌}
 use Rattle.std.proofs.lemmas.Bool.{false≢true}
 use Rattle.script_text.specs.declared.script.Script.{Script}
+use Rattle.script_text.specs.Readings.{◌>>=◌}
 use Rattle.xio.specs.Told.{Told}
 use Rattle.xdp_tool.specs.Ending.{status_of}
 use Rattle.xdp_tool.specs.Headline.{IsExplained, is_decided, is_end, out_of}
-use Rattle.xdp_tool.specs.Named.{Prepares}
-use Rattle.xdp_tool.specs.Outcome.{Whole, ending_after, phases_of}
+use Rattle.xdp_tool.specs.Named.{AreNames, Prepares}
+use Rattle.xdp_tool.specs.Outcome.{Whole, ending_after, phases_of, prepared, script_at}
 use Rattle.xdp_tool.specs.Plan.{plan}
 use Rattle.xdp_tool.specs.Run.{ending_of}
 use Rattle.xdp_tool.specs.Sinks.{FillsSink, IsTraced, IsTracedUpTo, LeavesOut, LeavesTrace, Performs}
+use Rattle.xdp_tool.specs.Words.{names_in}
 use Rattle.xdp_tool.specs.declared.ending.Ending.{Ending}
 use Rattle.xdp_tool.specs.declared.ending.Ending.TheVariants as ending
 use Rattle.xdp_tool.specs.declared.perform.Stop.{Stop}
@@ -62,6 +64,30 @@ early-phases script (ending.BadScript line rule) prepares early decided = ap (λ
 early-phases script ending.Fault prepares early decided = absurd (false≢true decided)
 early-phases script ending.OutOfMemory prepares early decided = absurd (false≢true decided)
 early-phases script (ending.Limit name) prepares early decided = ap (λ s. phases_of s Whole) prepares
+
+-- words that aren't taken, or want memory
+pub words-early : (words : List (List ℕ)) (content : List ℕ → List ℕ) (e : Ending) → AreNames (Err e) (names_in words) → Prepares (Err e) (prepared words content)
+words-early words content (ending.Done refused) names = ap (λ taken. taken >>= (λ named. script_at (content named.script))) names
+words-early words content ending.Usage names = ap (λ taken. taken >>= (λ named. script_at (content named.script))) names
+words-early words content (ending.BadScript line rule) names = ap (λ taken. taken >>= (λ named. script_at (content named.script))) names
+words-early words content ending.Fault names = tt
+words-early words content ending.OutOfMemory names = tt
+words-early words content (ending.Limit name) names = ap (λ taken. taken >>= (λ named. script_at (content named.script))) names
+
+pub decided-early : (script : Result Script Ending) (e : Ending) → Prepares (Err e) script → is_decided (status_of e) ≡ true → e ≡ ending_after script
+decided-early script (ending.Done refused) prepares decided = sym (ap ending_after prepares)
+decided-early script ending.Usage prepares decided = sym (ap ending_after prepares)
+decided-early script (ending.BadScript line rule) prepares decided = sym (ap ending_after prepares)
+decided-early script ending.Fault prepares decided = absurd (false≢true decided)
+decided-early script ending.OutOfMemory prepares decided = absurd (false≢true decided)
+decided-early script (ending.Limit name) prepares decided = sym (ap ending_after prepares)
+
+pub explained-early : (script : Result Script Ending) (e : Ending) (choices : List (List (List ℕ))) → choices ≡ [] → Prepares (Err e) script → is_end (status_of e) ≡ false → IsExplained script (status_of e) choices Whole
+explained-early script e choices none prepares early = rw none (record {
+  whole = λ decided. refl;
+  covered = λ decided. sym (ap length (early-phases script e prepares early decided));
+  legal = tt;
+})
 
 -- what is said of a run is how it ended, or that memory was wanting for it
 pub told-decided : (told e : Ending) → (told ≡ e) ⊎ (told ≡ ending.OutOfMemory) → is_decided (status_of told) ≡ true → told ≡ e

@@ -2,6 +2,7 @@
 use Rattle.std.specs.Prelude.{◌≡◌, ℕ, ◌==◌, ◌||◌, Bool, true, Option, None, List, [], ◌∷◌, length, map, Result, Ok, Err, if◌then◌else◌}
 use Rattle.std.specs.Prelude.{String}
 use Rattle.std.specs.String.{string_bytes}
+use Rattle.command_line.specs.Names.{Names}
 use Rattle.xio.specs.Told.{Told}
 use Rattle.script_text.specs.declared.script.Script.{Script}
 use Rattle.xdp_state.specs.Legal.{AreLegal}
@@ -10,7 +11,7 @@ use Rattle.xdp_tool.specs.Ending.{status_of, line_of, err_text}
 use Rattle.xdp_tool.specs.Outcome.{Cut, Whole, prepared, phases_of, interfaces_of, ending_after}
 use Rattle.xdp_tool.specs.Plan.{works_of}
 use Rattle.xdp_tool.specs.Traversed.{out_for, trace_for}
-use Rattle.xdp_tool.specs.Words.{Names, names_in}
+use Rattle.xdp_tool.specs.Words.{names_in}
 use Rattle.xdp_tool.specs.declared.ending.Ending.{Ending}
 use Rattle.xdp_tool.specs.declared.ending.Ending.TheVariants.{Fault, OutOfMemory}
 

@@ -2,20 +2,19 @@
 use Rattle.std.specs.Prelude.{◌≡◌, ℕ, List, Result, Ok, Err, Option, ⊤}
 use Rattle.std.specs.Borrow.{Bor}
 use Rattle.std.specs.Option.{option_map}
+use Rattle.command_line.specs.Names.{Names, names_of}
+use Rattle.command_line.specs.declared.names.FileNames.{FileNames}
 use Rattle.script_text.specs.declared.script.Script.{Script}
-use Rattle.xdp_tool.specs.Words.{Names}
 use Rattle.xdp_tool.specs.declared.ending.Ending.{Ending}
 use Rattle.xdp_tool.specs.declared.ending.Ending.TheVariants.{Fault, OutOfMemory}
-use Rattle.xdp_tool.specs.declared.words.Named.{Named}
 
 abbrev pub name_of : Option (Bor (List ℕ)) → Option (List ℕ)
 name_of name = option_map (λ n. n.now) name
 
-abbrev pub names_of : Named → Names
-names_of named = record { script = named.script.now; trace = name_of named.trace }
-
-abbrev pub AreNames : Result Named Ending → Result Names Ending → Type 0
+-- only want of memory is free
+abbrev pub AreNames : Result FileNames Ending → Result Names Ending → Type 0
 AreNames (Ok named) wanted = wanted ≡ Ok (names_of named)
+AreNames (Err OutOfMemory) wanted = ⊤
 AreNames (Err ending) wanted = wanted ≡ Err ending
 
 -- only a fault and want of memory are free

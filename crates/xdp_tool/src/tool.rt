@@ -133,7 +133,7 @@ fn run<F: Files, O: Sink>(
     ensures same_handles { F.handles files.new ≡ F.handles files.old }
     ensures same_out { KeepsSink O.faults O.setting out.old out.new }
 {
-    let named = match names_in(words) {
+    let named = match names_in(alloc, words) {
         Ok(named) => named,
         Err(ending) => {
             flush_early(out);

@@ -20,9 +20,11 @@ const USAGE: &str =
     "usage: xdptool [--capture FILE] [--trace FILE] [--replay FILE] [--demo SEED] [SCRIPT]\n";
 
 /// Words, and the status, out, err and trace of the run.
-const WORDS: [(&[&str], u8, &str, &str, Option<&str>); 12] = [
+const WORDS: [(&[&str], u8, &str, &str, Option<&str>); 16] = [
     (&["s"], 0, OUT, "", None),
     (&["--trace", "t", "s"], 0, OUT, "", Some(TRACE)),
+    (&["s", "--trace=t"], 0, OUT, "", Some(TRACE)),
+    (&["--", "s"], 0, OUT, "", None),
     (&[], 2, "", USAGE, None),
     (&["s", "t"], 2, "", USAGE, None),
     (&["-s"], 2, "", USAGE, None),
@@ -32,6 +34,8 @@ const WORDS: [(&[&str], u8, &str, &str, Option<&str>); 12] = [
     (&["--trace", "-t", "s"], 2, "", USAGE, None),
     (&["--trace", "s", "s"], 2, "", USAGE, None),
     (&["--capture", "t", "s"], 2, "", USAGE, None),
+    (&["--replay", "t", "s"], 2, "", USAGE, None),
+    (&["--trace", "t", "--trace", "u", "s"], 2, "", USAGE, None),
     (&["--trace", "t", "u"], 3, "", "xdptool: fault\n", None),
 ];
 

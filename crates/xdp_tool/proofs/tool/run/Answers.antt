@@ -4,7 +4,7 @@ use Rattle.xdp_tool.specs.Named.{name_of}
 use Rattle.xdp_tool.specs.Outcome.{Whole, interfaces_of, phases_of}
 use Rattle.xdp_tool.proofs.OneTrace.{begun-all, begun-none, leaves-none, leaves-trace, taken-still, touches-both, touches-nothing, touches-read, traced-all, traced-none, unmade-still}
 use Rattle.xdp_tool.proofs.Ordering.{none-whole}
-use Rattle.xdp_tool.proofs.Telling.{decided-by, explained-by, flushed-ended, leaves-early, leaves-out}
+use Rattle.xdp_tool.proofs.Telling.{decided-by, decided-early, explained-by, explained-early, flushed-ended, leaves-early, leaves-out, words-early}
 use Rattle.xdp_tool.proofs.tool.run.Goals as goal
 
 pub returns-clause-decided : goal.returns-clause-decided
@@ -94,3 +94,18 @@ pub returns-in-Err-clause-ordered : goal.returns-in-Err-clause-ordered
 returns-in-Err-clause-ordered g c = λ tells told.
     let script = script_by c.args.words.now (g.F.Files.told c.args.files.now) in
     (0, rw (c.flush_early.ensures.same_held told) (none-whole (interfaces_of script) (phases_of script Whole) _), traced-none (g.F.Files.told c.args.files.now) (g.F.Files.told c.args.files.now) _ _ (unmade-still (g.F.Files.told c.args.files.now)))
+
+pub returns-in-Err-clause-decided : goal.returns-in-Err-clause-decided
+returns-in-Err-clause-decided g c = λ tells. decided-early _ c.in-Err.ending (words-early _ _ c.in-Err.ending c.in-Err.ensures.names)
+
+pub returns-in-Err-clause-explained : goal.returns-in-Err-clause-explained
+returns-in-Err-clause-explained g c = λ tells.
+    explained-early _ c.in-Err.ending c.args.choices.now c.requires.none (words-early _ _ c.in-Err.ending c.in-Err.ensures.names) c.in-Err.ensures.failed
+
+pub returns-in-Err-clause-out : goal.returns-in-Err-clause-out
+returns-in-Err-clause-out g c = λ tells told.
+    leaves-early g.O.Sink.held c.args.out.now c.flush_early.new.out _ c.in-Err.ending c.args.choices.now (words-early _ _ c.in-Err.ending c.in-Err.ensures.names) c.in-Err.ensures.failed (c.flush_early.ensures.same_held told)
+
+pub returns-in-Err-clause-trace : goal.returns-in-Err-clause-trace
+returns-in-Err-clause-trace g c = λ tells.
+    leaves-none _ _ _ _ _ c.in-Err.ensures.failed (unmade-still (g.F.Files.told c.args.files.now))
