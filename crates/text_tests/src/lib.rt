@@ -9,3 +9,5 @@ mod captures;
 mod options;
 #[cfg(test)]
 mod texts;
+#[cfg(test)]
+mod traces;
