@@ -1,9 +1,9 @@
 -- The counts of a trace, as its lines are read.
-use Rattle.std.proofs.Common.{◌≡◌, ℕ, ◌+◌, ◌<◌, ◌≤◌, ◌==◌, zero, suc, Bool, true, false, cond, List, [], ◌∷◌, ◌++◌, length, drop, get_or, slice_set, Err, append_assoc, refl, sym, ap, ◌∙◌, arith}
+use Rattle.std.proofs.Common.{◌≡◌, ℕ, ◌+◌, ◌<◌, ◌≤◌, ◌==◌, zero, suc, Bool, true, false, cond, List, [], ◌∷◌, ◌++◌, length, length-append, drop, get_or, slice_set, Err, append-nil, append_assoc, refl, sym, ap, ◌∙◌, arith}
 use Rattle.std.specs.List.{onto_first}
 use Rattle.std.proofs.lemmas.List.{drop_more, drop-set-lt}
 use Rattle.std.proofs.lemmas.List.Splits.{length-slice_split}
-use Rattle.script_text.specs.TraceRead.{TraceCounts, at_end, counted_on}
+use Rattle.script_text.specs.TraceRead.{TraceCounts, at_end, counted_on, last_phase}
 use Rattle.script_text.specs.Words.{parts_of}
 
 -- a count put in the list at its processor's place, and one of no processor
@@ -34,3 +34,23 @@ pub end-behind : (read : TraceCounts) (line : ℕ) (behind : List ℕ) → 0 < l
 end-behind read line [] some = absurd (omega arith)
 end-behind read line (b ∷ behind) some =
     end-parts read line b (b == 10) (parts_of 10 behind) (omega (arith, length-slice_split (λ x. x == 10) behind))
+
+-- the phase under way
+pub last-none : (last : List (List ℕ)) → length last ≡ 0 → last_phase last ≡ []
+last-none [] none = refl
+last-none (counts ∷ last) none = absurd (omega (arith, none))
+
+pub last-one : (last : List (List ℕ)) → 0 < length last → last_phase last ≡ last ∷ []
+last-one [] some = absurd (omega arith)
+last-one (counts ∷ last) some = refl
+
+-- how many phases there are
+pub phases-none : (ended : List (List (List ℕ))) (last : List (List ℕ)) → length last ≡ 0 → length (ended ++ last_phase last) ≡ length ended
+phases-none ended last none = rw (last-none last none, append-nil ended) refl
+
+pub phases-one : (ended : List (List (List ℕ))) (last : List (List ℕ)) → 0 < length last → length (ended ++ last_phase last) ≡ length ended + 1
+phases-one ended last some = ap (λ lists. length (ended ++ lists)) (last-one last some) ∙ length-append ended (last ∷ [])
+
+ruleset pub phases = (phases-none phases-one)
+ruleset pub behind = (end-behind)
+ruleset pub lasts = (last-none last-one)

@@ -1,6 +1,6 @@
-ghost use Rattle.std.specs.Prelude.{◌≡◌, ◌++◌, replicate, [], IfOk, OnOk};
+ghost use Rattle.std.specs.Prelude.{◌≡◌, ◌++◌, length, replicate, [], IfOk, OnOk};
 ghost use Rattle.script_text.specs.Readings.{found};
-ghost use Rattle.script_text.specs.TraceRead.{LeadsTrace, ReadsTrace, at_end, counted_on, counts_of, is_next, last_phase, no_counts, read_from, trace_read, with_line, with_phase};
+ghost use Rattle.script_text.specs.TraceRead.{LeadsTrace, ReadsTrace, at_end, counted_on, counts_of, is_next, last_phase, no_counts, phases_in, read_from, trace_read, with_line, with_phase};
 ghost use Rattle.script_text.specs.Words.{parts_of};
 ghost use Rattle.script_text.specs.declared.trace_read.TraceEnd.TheVariants as end;
 
@@ -88,6 +88,7 @@ fn read_lines(alloc: Global, lines: &[u8]) -> Result<Choices, TraceEnd>
 }
 
 /// Ends the reading where nothing stands behind the last line; the line of this number would.
+#[tactic(auto, using(crate::proofs::TraceLemmas::behind))]
 fn end_at(
     alloc: Global,
     read: Reading,
@@ -116,8 +117,7 @@ fn read_line(
 ) -> Result<(), TraceEnd>
     ensures { LeadsTrace result read.new (found line (with_line (counts_of read.old) text.now)) }
 {
-    let number = u64::from(read.ended.len()) + u64::from(!read.last.is_empty());
-    if is_heading(number, text) {
+    if is_heading(phases_begun(read), text) {
         begin_phase(alloc, read)?;
         return Ok(());
     }
@@ -130,6 +130,19 @@ fn read_line(
     count_on(&mut read.last, row.processor, row.count)?;
     read.processor = row.processor;
     Ok(())
+}
+
+/// How many phases have begun.
+#[tactic(auto, using(crate::proofs::TraceLemmas::phases))]
+fn phases_begun(read: &Reading) -> u64
+    ensures { result ≡ length (phases_in (counts_of read.now)) }
+{
+    let ended = u64::from(read.ended.len());
+    if read.last.is_empty() {
+        ended
+    } else {
+        ended + 1
+    }
 }
 
 /// Whether a packet's line may stand behind those of the last phase, of which the last packet is one of this processor.
@@ -178,6 +191,7 @@ fn no_packets(alloc: Global) -> Result<Vec<CountList>, OutOfMemory>
 }
 
 /// Puts the counts of the last phase behind those of the phases before it, where a phase has begun.
+#[tactic(auto, using(crate::proofs::TraceLemmas::lasts))]
 fn end_phase(
     alloc: Global,
     ended: &mut Choices,
