@@ -51,6 +51,6 @@ phases-none ended last none = rw (last-none last none, append-nil ended) refl
 pub phases-one : (ended : List (List (List ℕ))) (last : List (List ℕ)) → 0 < length last → length (ended ++ last_phase last) ≡ length ended + 1
 phases-one ended last some = ap (λ lists. length (ended ++ lists)) (last-one last some) ∙ length-append ended (last ∷ [])
 
-ruleset pub phases = (phases-none phases-one)
-ruleset pub behind = (end-behind)
-ruleset pub lasts = (last-none last-one)
+pub ruleset phases = (phases-none, phases-one)
+pub ruleset behind = (end-behind)
+pub ruleset lasts = (last-none, last-one)
