@@ -16,6 +16,7 @@ use Rattle.std.specs.Str.Parse.{AllDigits}
 use Rattle.hex.proofs.HexLemmas.{length-encode_with}
 use Rattle.hex.specs.Hex.{IsBytes, encode_lower, encode_with, lower_digits}
 use Rattle.script_text.proofs.ReadBack.{numbers_back}
+use Rattle.script_text.proofs.TraceLemmas.{last-one}
 use Rattle.script_text.specs.Numbers.{has_zero_in_front, printed_number}
 use Rattle.script_text.specs.Trace.{first_line, heading, last_line, packet_trace, packets_trace, phases_trace, processors_trace, trace_line, whole_trace}
 use Rattle.script_text.specs.TraceRead.{AreTraceable, AreTraceableIn, AreTraceableOn, IsTraceable, TraceCounts, are_printed_pairs, counted_on, counts_in, counts_on, is_heading, is_next, is_printed_digit, is_way, last_phase, no_counts, phases_in, read_from, row_of, trace_read, with_line, with_phase, with_row}
@@ -219,7 +220,8 @@ line_ended processor place packet rest =
 packet_step : (read : TraceCounts) (line processor place : ℕ) (packet : Carried) (rest : List ℕ) → processor < 2 ^ 32 → place < 2 ^ 32 → IsTraceable packet → is_next read.processor read.last (row_for processor place packet) ≡ true → read_from read line (parts_of 10 (packet_trace processor place packet ++ rest)) ≡ read_from (with_row read (row_for processor place packet)) (line + 1) (parts_of 10 rest)
 packet_step read line processor place packet rest first second is next =
     let row = row_known processor place packet first second is in
-    let many : 1 < length (parts_of 32 (text_of processor place packet)) = rw row.parts (omega arith) in
+    let seven : length (parts_of 32 (text_of processor place packet)) ≡ 7 = ap length row.parts in
+    let many : 1 < length (parts_of 32 (text_of processor place packet)) = omega (arith, seven) in
     ap (λ text. read_from read line (parts_of 10 text)) (line_ended processor place packet rest)
     ∙ line_step read (with_row read (row_for processor place packet)) line (text_of processor place packet) rest row.line (not_end (text_of processor place packet) many) (row_goes read processor place packet first second is row next)
 
@@ -230,7 +232,7 @@ heading_parts number small =
 
 heading_is : (number : ℕ) → number < 2 ^ 32 → is_heading number (codes "phase" ++ 32 ∷ decimal number) ≡ true
 unfolding is_heading
-heading_is number small = rw (heading_parts number small, printed_back number small) (eq-eqb number number refl)
+heading_is number small = rw (split_none 32 32 (decimal number) (omega arith) (decimal_word number small), printed_back number small) (eq-eqb number number refl)
 
 heading_goes : (read : TraceCounts) (number : ℕ) → length (phases_in read) ≡ number → number < 2 ^ 32 → with_line read (codes "phase" ++ 32 ∷ decimal number) ≡ Some (with_phase read)
 unfolding with_line
@@ -240,7 +242,8 @@ heading_step : (read : TraceCounts) (line number : ℕ) (rest : List ℕ) → le
 heading_step read line number rest is small =
     let text = codes "phase" ++ 32 ∷ decimal number in
     let ended : heading number ++ rest ≡ text ++ 10 ∷ rest = ap (λ t. codes "phase " ++ t) (append_assoc (decimal number) (codes "\n") rest) in
-    let many : 1 < length (parts_of 32 text) = rw (heading_parts number small) (omega arith) in
+    let two : length (parts_of 32 text) ≡ 2 = ap length (heading_parts number small) in
+    let many : 1 < length (parts_of 32 text) = omega (arith, two) in
     ap (λ t. read_from read line (parts_of 10 t)) ended
     ∙ line_step read (with_phase read) line text rest (joined (codes "phase") (decimal number) refl (word-line (decimal number) (decimal_word number small))) (not_end text many) (heading_goes read number is small)
 
@@ -305,10 +308,6 @@ processors_read ended done (packets ∷ more) left (suc many) processor at line 
           ∙ ap (λ lists. read_from (record { ended = ended; last = lists; processor = next.now }) next.behind (parts_of 10 rest)) (append_assoc done (counts_on packets ∷ []) (map counts_on more ++ replicate left [])))));
     }
 
-last-one : (lists : List (List ℕ)) → 0 < length lists → last_phase lists ≡ lists ∷ []
-last-one [] some = absurd (omega arith)
-last-one (counts ∷ lists) some = refl
-
 length-counts : (carried : List (List Carried)) → length carried ≤ 8 → 0 < length (counts_in carried)
 length-counts [] few = omega arith
 length-counts (packets ∷ carried) few = omega arith
@@ -336,4 +335,4 @@ unfolding trace_read
 traces_back phases few are =
     let rest = phases_trace 0 phases ++ last_line in
     let some : (length (parts_of 10 rest) == 0) ≡ false = grind (arith, nat_tests, length-slice_split (λ b. b == 10) rest) in
-    rw (split_at 31 10 (codes "xdptrace 1") rest (omega arith) refl, some) (phases_read phases 0 no_counts 2 refl (omega (arith, few)) are)
+    rw some (phases_read phases 0 no_counts 2 refl (omega (arith, few)) are)
