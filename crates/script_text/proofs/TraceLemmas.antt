@@ -52,5 +52,7 @@ pub phases-one : (ended : List (List (List ℕ))) (last : List (List ℕ)) → 0
 phases-one ended last some = ap (λ lists. length (ended ++ lists)) (last-one last some) ∙ length-append ended (last ∷ [])
 
 pub ruleset phases = (phases-none, phases-one)
+
 pub ruleset behind = (end-behind)
+
 pub ruleset lasts = (last-none, last-one)

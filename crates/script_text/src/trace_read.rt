@@ -45,7 +45,10 @@ pub struct Reading {
 pub fn read_trace(alloc: Global, bytes: &[u8]) -> Result<Choices, TraceEnd>
     ensures { ReadsTrace result (trace_read bytes.now) }
 {
-    let Part { part: first, behind } = first_part(bytes, b'\n');
+    let Part {
+        part: first,
+        behind,
+    } = first_part(bytes, b'\n');
     let Some(behind) = behind else {
         return Err(TraceEnd::BadTrace { line: 1 });
     };
@@ -89,18 +92,17 @@ fn read_lines(alloc: Global, lines: &[u8]) -> Result<Choices, TraceEnd>
 
 /// Ends the reading where nothing stands behind the last line; the line of this number would.
 #[tactic(auto, using(crate::proofs::TraceLemmas::behind))]
-fn end_at(
-    alloc: Global,
-    read: Reading,
-    line: u32,
-    behind: &[u8],
-) -> Result<Choices, TraceEnd>
+fn end_at(alloc: Global, read: Reading, line: u32, behind: &[u8]) -> Result<Choices, TraceEnd>
     ensures { ReadsTrace result (at_end (counts_of read) line (parts_of 10 behind.now)) }
 {
     if !behind.is_empty() {
         return Err(TraceEnd::BadTrace { line });
     }
-    let Reading { mut ended, last, .. } = read;
+    let Reading {
+        mut ended,
+        last,
+        ..
+    } = read;
     match end_phase(alloc, &mut ended, last) {
         Ok(()) => Ok(ended),
         Err(_) => Err(TraceEnd::OutOfMemory),
@@ -109,12 +111,7 @@ fn end_at(
 
 /// Reads the line of this number, which is neither the first nor the last.
 #[tactic(auto, unfolding(crate::specs::TraceRead::with_line))]
-fn read_line(
-    alloc: Global,
-    read: &mut Reading,
-    line: u32,
-    text: &[u8],
-) -> Result<(), TraceEnd>
+fn read_line(alloc: Global, read: &mut Reading, line: u32, text: &[u8]) -> Result<(), TraceEnd>
     ensures { LeadsTrace result read.new (found line (with_line (counts_of read.old) text.now)) }
 {
     if is_heading(phases_begun(read), text) {
@@ -192,11 +189,7 @@ fn no_packets(alloc: Global) -> Result<Vec<CountList>, OutOfMemory>
 
 /// Puts the counts of the last phase behind those of the phases before it, where a phase has begun.
 #[tactic(auto, using(crate::proofs::TraceLemmas::lasts))]
-fn end_phase(
-    alloc: Global,
-    ended: &mut Choices,
-    last: Vec<CountList>,
-) -> Result<(), OutOfMemory>
+fn end_phase(alloc: Global, ended: &mut Choices, last: Vec<CountList>) -> Result<(), OutOfMemory>
     ensures { OnOk result (ended.new ≡ ended.old ++ last_phase last.items) }
 {
     if last.is_empty() {

@@ -21,11 +21,17 @@ pub struct CountRow {
 fn is_way(words: &[u8]) -> bool
     ensures { result ≡ is_way (parts_of 32 words.now) }
 {
-    let Part { part: verdict, behind } = first_part(words, b' ');
+    let Part {
+        part: verdict,
+        behind,
+    } = first_part(words, b' ');
     let Some(behind) = behind else {
         return false;
     };
-    let Part { part: target, behind } = first_part(behind, b' ');
+    let Part {
+        part: target,
+        behind,
+    } = first_part(behind, b' ');
     let Some(behind) = behind else {
         return false;
     };
@@ -33,7 +39,10 @@ fn is_way(words: &[u8]) -> bool
     let Some(behind) = behind else {
         return false;
     };
-    let Part { part: digits, behind } = first_part(behind, b' ');
+    let Part {
+        part: digits,
+        behind,
+    } = first_part(behind, b' ');
     behind.is_none()
         && action_of(verdict).is_some()
         && printed_number(target).is_some()
@@ -46,9 +55,18 @@ fn is_way(words: &[u8]) -> bool
 pub fn row_of(line: &[u8]) -> Option<CountRow>
     ensures { result ≡ row_of line.now }
 {
-    let Part { part: processor, behind } = first_part(line, b' ');
-    let Part { part: place, behind } = first_part(behind?, b' ');
-    let Part { part: count, behind } = first_part(behind?, b' ');
+    let Part {
+        part: processor,
+        behind,
+    } = first_part(line, b' ');
+    let Part {
+        part: place,
+        behind,
+    } = first_part(behind?, b' ');
+    let Part {
+        part: count,
+        behind,
+    } = first_part(behind?, b' ');
     if !is_way(behind?) {
         return None;
     }
@@ -68,7 +86,10 @@ pub fn is_heading(number: u64, line: &[u8]) -> bool
     let Some(behind) = behind else {
         return false;
     };
-    let Part { part: digits, behind } = first_part(behind, b' ');
+    let Part {
+        part: digits,
+        behind,
+    } = first_part(behind, b' ');
     if behind.is_some() || word != b"phase".as_slice() {
         return false;
     }

@@ -17,8 +17,14 @@ fn first_bad(alloc: Global, trace: &str) -> Option<u32> {
 const LINES: [(&str, u32); 32] = [
     ("xdptrace 1\nend\n", 0),
     ("xdptrace 1\nphase 0\nend\n", 0),
-    ("xdptrace 1\nphase 0\n7 0 4294967295 tx 4294967295 0 00ff\nphase 1\n0 0 0 aborted 0 9 00\nend\n", 0),
-    ("xdptrace 1\nphase 0\n0 0 2 drop 1 1 00\n2 0 1 pass 0 1 00\n2 1 0 redirect 0 1 00\nend\n", 0),
+    (
+        "xdptrace 1\nphase 0\n7 0 4294967295 tx 4294967295 0 00ff\nphase 1\n0 0 0 aborted 0 9 00\nend\n",
+        0,
+    ),
+    (
+        "xdptrace 1\nphase 0\n0 0 2 drop 1 1 00\n2 0 1 pass 0 1 00\n2 1 0 redirect 0 1 00\nend\n",
+        0,
+    ),
     ("", 1),
     ("xdptrace 1", 1),
     ("xdptrace 1\r\nend\n", 1),
@@ -44,9 +50,18 @@ const LINES: [(&str, u32); 32] = [
     ("xdptrace 1\nphase 0\n0 0 0 pass 0  1 00\nend\n", 3),
     ("xdptrace 1\nphase 0\n0 0 0 pass 0 00\nend\n", 3),
     ("xdptrace 1\nphase 0\n0 0 0 pass 0 1 00 0\nend\n", 3),
-    ("xdptrace 1\nphase 0\n0 0 0 pass 0 1 00\n0 0 0 pass 0 1 00\nend\n", 4),
-    ("xdptrace 1\nphase 0\n1 0 0 pass 0 1 00\n0 0 0 pass 0 1 00\nend\n", 4),
-    ("xdptrace 1\nphase 0\n0 0 0 pass 0 1 00\nphase 1\n0 1 0 pass 0 1 00\nend\n", 5),
+    (
+        "xdptrace 1\nphase 0\n0 0 0 pass 0 1 00\n0 0 0 pass 0 1 00\nend\n",
+        4,
+    ),
+    (
+        "xdptrace 1\nphase 0\n1 0 0 pass 0 1 00\n0 0 0 pass 0 1 00\nend\n",
+        4,
+    ),
+    (
+        "xdptrace 1\nphase 0\n0 0 0 pass 0 1 00\nphase 1\n0 1 0 pass 0 1 00\nend\n",
+        5,
+    ),
 ];
 
 #[test]
