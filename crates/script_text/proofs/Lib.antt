@@ -10,4 +10,6 @@ pub mod PieceLemmas
 pub mod PlaceLemmas
 pub mod ReadBack
 pub mod TableLemmas
+pub mod TraceBack
+pub mod TraceLemmas
 pub mod WordLemmas

@@ -13,5 +13,6 @@ pub mod Script
 pub mod Table
 pub mod Texts
 pub mod Trace
+pub mod TraceRead
 pub mod Vocabulary
 pub mod Words

@@ -2,9 +2,11 @@
 //! the lower one.
 
 ghost use Rattle.std.specs.Prelude.{◌≡◌, ◌≤◌, length, IfOk, option_map};
+ghost use Rattle.std.specs.List.{list_all};
 ghost use Rattle.std.specs.Result.{result_ok};
 ghost use Rattle.hex.specs.Hex.{decode_of, encode_lower};
 ghost use Rattle.script_text.specs.Addresses.{octet_of, four_digits, group_of};
+ghost use Rattle.script_text.specs.TraceRead.{are_printed_pairs, is_printed_digit};
 ghost use Rattle.xio.specs.Printing.{Prints};
 
 use byteorder::{BigEndian, ByteOrder};
@@ -61,6 +63,31 @@ pub fn group_of(digits: &[u8]) -> Option<u16>
         Ok(bytes) => Some(BigEndian::read_u16(&bytes)),
         Err(_) => None,
     }
+}
+
+fn is_printed_digit(b: u8) -> bool
+    ensures { result ≡ is_printed_digit b }
+{
+    matches!(b, b'0'..=b'9' | b'a'..=b'f')
+}
+
+/// Whether all bytes are digits as they are printed.
+fn are_printed_digits(word: &[u8]) -> bool
+    ensures { result ≡ list_all is_printed_digit word.now }
+{
+    let mut printed = true;
+    for b in word {
+        printed &= is_printed_digit(*b);
+    }
+    printed
+}
+
+/// Whether a word is what is printed of one or more bytes.
+#[tactic(auto, unfolding(crate::specs::TraceRead::are_printed_pairs))]
+pub fn are_printed_pairs(word: &[u8]) -> bool
+    ensures { result ≡ are_printed_pairs word.now }
+{
+    word.len() >= 2 && word.len() % 2 == 0 && are_printed_digits(word)
 }
 
 /// Prints bytes in digits.

@@ -2,7 +2,7 @@
 
 ghost use Rattle.std.specs.Prelude.{◌≡◌, ◌≤◌, length, IfSome};
 ghost use Rattle.std.specs.Fmt.{decimal};
-ghost use Rattle.script_text.specs.Numbers.{numeral, number_of, number_within};
+ghost use Rattle.script_text.specs.Numbers.{numeral, number_of, number_within, printed_number};
 ghost use Rattle.xio.specs.Printing.{Prints};
 
 use xio::Printer;
@@ -41,6 +41,17 @@ pub fn number_within(low: u32, high: u32, word: &[u8]) -> Option<u32>
         return None;
     }
     Some(number as u32)
+}
+
+/// The number below 2^32 that is printed so.
+#[tactic(auto, unfolding(crate::specs::Numbers::printed_number))]
+pub fn printed_number(word: &[u8]) -> Option<u32>
+    ensures { result ≡ printed_number word.now }
+{
+    if word.len() > 1 && word[0] == b'0' {
+        return None;
+    }
+    number_within(0, u32::MAX, word)
 }
 
 /// Prints a number.

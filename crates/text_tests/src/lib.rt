@@ -7,3 +7,5 @@ mod bad_lines;
 mod options;
 #[cfg(test)]
 mod texts;
+#[cfg(test)]
+mod traces;

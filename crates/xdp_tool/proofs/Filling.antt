@@ -11,7 +11,7 @@ use Rattle.xdp_tool.specs.Order.{AppendsWhole}
 use Rattle.xdp_tool.specs.PhaseEnd.{PutsText}
 use Rattle.xdp_tool.specs.Plan.{Phase}
 use Rattle.xdp_tool.specs.Sinks.{FillsSink, IsUnbegun, Performs}
-use Rattle.xdp_tool.specs.Trace.{first_line}
+use Rattle.script_text.specs.Trace.{first_line}
 use Rattle.xdp_tool.specs.Traversed.{trace_for, traces_for}
 use Rattle.xdp_tool.specs.declared.perform.Stop.{Stop}
 

@@ -9,7 +9,7 @@ use Rattle.xdp_state.specs.declared.carried.Carried.{Carried}
 use Rattle.xdp_state.specs.declared.tally.Tally.{Tally}
 use Rattle.xdp_tool.specs.QueueView.{queue_of}
 use Rattle.xdp_tool.specs.Texts.{processors_text}
-use Rattle.xdp_tool.specs.Trace.{packet_trace, packets_trace, processors_trace}
+use Rattle.script_text.specs.Trace.{packet_trace, packets_trace, processors_trace}
 use Rattle.xdp_tool.specs.declared.queue.Queue.{Queue}
 
 tally-at : (before : List (List Counted)) (place : ℕ) (tally : Tally) → tally ≡ get_or (map tally_of before) place tally → place < length before → (packets : List Counted) × (tally ≡ tally_of packets) × (drop place before ≡ packets ∷ drop (place + 1) before)

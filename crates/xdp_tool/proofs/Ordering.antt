@@ -13,7 +13,8 @@ use Rattle.xdp_tool.specs.PhaseEnd.{EndsChoices, EndsText}
 use Rattle.xdp_tool.specs.Plan.{Phase}
 use Rattle.xdp_tool.specs.Queues.{queues_of}
 use Rattle.xdp_tool.specs.Ran.{at_hand_in}
-use Rattle.xdp_tool.specs.Trace.{first_line, traced_text}
+use Rattle.script_text.specs.Trace.{first_line}
+use Rattle.xdp_tool.specs.Trace.{traced_text}
 use Rattle.xdp_tool.specs.Traversed.{out_for, standings_of, trace_for, traces_for}
 use Rattle.xdp_tool.specs.Walked.{Begun, no_begun}
 use Rattle.xdp_tool.specs.declared.perform.Stop.{Stop}

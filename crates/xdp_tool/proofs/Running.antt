@@ -15,7 +15,8 @@ use Rattle.xdp_tool.specs.Plan.{Phase, has_refusal}
 use Rattle.xdp_tool.specs.Queues.{queues_of}
 use Rattle.xdp_tool.specs.Ran.{at_hand_in}
 use Rattle.xdp_tool.specs.Texts.{phase_text, texts_from}
-use Rattle.xdp_tool.specs.Trace.{first_line, traced_text, traces_from}
+use Rattle.script_text.specs.Trace.{first_line}
+use Rattle.xdp_tool.specs.Trace.{traced_text, traces_from}
 use Rattle.xdp_tool.specs.Traversed.{out_for, standings_of, trace_for, traces_for, traversed}
 use Rattle.xdp_tool.specs.Walked.{AreSteady, Begun, begun_after, no_begun}
 use Rattle.xdp_tool.specs.declared.perform.Stop.{Stop}

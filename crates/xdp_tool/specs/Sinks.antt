@@ -9,7 +9,7 @@ use Rattle.xdp_state.specs.declared.interface.Interface.{Interface}
 use Rattle.xdp_tool.specs.Headline.{is_decided, is_end}
 use Rattle.xdp_tool.specs.Order.{AppendsWhole}
 use Rattle.xdp_tool.specs.Plan.{Phase, has_refusal, works_of}
-use Rattle.xdp_tool.specs.Trace.{first_line}
+use Rattle.script_text.specs.Trace.{first_line}
 use Rattle.xdp_tool.specs.Traversed.{out_for, trace_for}
 use Rattle.xdp_tool.specs.declared.perform.Stop.{Stop}
 

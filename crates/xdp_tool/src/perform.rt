@@ -12,7 +12,8 @@ ghost use Rattle.xdp_tool.specs.Ran.{IsStanding, Stands, at_hand_in};
 ghost use Rattle.xdp_tool.specs.Runnable.{IsRunnable};
 ghost use Rattle.xdp_tool.specs.Sinks.{FillsSink, IsOrdered, IsSettled, IsUnbegun, KeepsSink, Performs, Rises};
 ghost use Rattle.xdp_tool.specs.Texts.{phase_text};
-ghost use Rattle.xdp_tool.specs.Trace.{first_line, traced_text};
+ghost use Rattle.script_text.specs.Trace.{first_line};
+ghost use Rattle.xdp_tool.specs.Trace.{traced_text};
 ghost use Rattle.xdp_tool.specs.Traversed.{out_for, trace_for, traces_for};
 ghost use Rattle.xdp_tool.specs.Walked.{Begun, begun_after};
 

@@ -1,5 +1,6 @@
 ghost use Rattle.std.specs.Prelude.{◌++◌, ℕ};
-ghost use Rattle.xdp_tool.specs.Trace.{end_mark, heading, packet_trace, packets_trace, phase_trace, processors_trace};
+ghost use Rattle.script_text.specs.Trace.{heading, packet_trace, packets_trace, processors_trace};
+ghost use Rattle.xdp_tool.specs.Trace.{end_mark, phase_trace};
 ghost use Rattle.xio.specs.Printing.{Prints};
 
 use crate::closed::Closed;

@@ -1,4 +1,5 @@
 use Rattle.script_text.proofs.ReadBack.{numbers_back, frames_back, octets_back, groups_back, lists_back, directions_back, protocols_back}
+use Rattle.script_text.proofs.TraceBack.{traces_back}
 use Rattle.script_text.proofs.laws.reads_back.Goals as goal
 
 pub returns-clause-numbers : goal.returns-clause-numbers
@@ -21,3 +22,6 @@ returns-clause-directions c = directions_back
 
 pub returns-clause-protocols : goal.returns-clause-protocols
 returns-clause-protocols c = protocols_back
+
+pub returns-clause-traces : goal.returns-clause-traces
+returns-clause-traces c = traces_back

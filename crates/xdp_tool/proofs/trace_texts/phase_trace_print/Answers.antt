@@ -1,6 +1,7 @@
 use Rattle.std.proofs.Common.{◌++◌}
 use Rattle.xio.proofs.PrintLemmas.{prints_stop, prints_then}
-use Rattle.xdp_tool.specs.Trace.{end_mark, heading, processors_trace}
+use Rattle.script_text.specs.Trace.{heading, processors_trace}
+use Rattle.xdp_tool.specs.Trace.{end_mark}
 use Rattle.xdp_tool.proofs.trace_texts.phase_trace_print.Goals as goal
 
 pub returns-in_err-heading_print : goal.returns-in_err-heading_print

@@ -1,5 +1,5 @@
 use Rattle.std.proofs.Common.{drop}
-use Rattle.xdp_tool.specs.Trace.{processors_trace}
+use Rattle.script_text.specs.Trace.{processors_trace}
 use Rattle.xio.proofs.PrintLemmas.{HasPrinted}
 use Rattle.xdp_tool.proofs.trace_texts.processors_print.Given as goal
 
