@@ -1,9 +1,9 @@
 //! Each refusal, and which comes first.
 
 use crate::sample::*;
-use object_load::{LoadEnd, LoadRefusal};
 use btf_types::BadBtf;
 use elf_objects::BadElf;
+use object_load::{LoadEnd, LoadRefusal};
 use std::alloc::{AllocError, Global};
 use std::test::Fail;
 

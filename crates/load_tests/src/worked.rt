@@ -1,9 +1,9 @@
 //! Whole objects, and what is said of each of their programs.
 
 use crate::sample::*;
-use object_load::{LoadEnd, LoadRefusal, Program, ProgramList, programs_of};
 use elf_objects::BadElf;
 use map_store::MapKind;
+use object_load::{LoadEnd, LoadRefusal, Program, ProgramList, programs_of};
 use run_config::{NamedMap, RunConfig};
 use std::test::Fail;
 

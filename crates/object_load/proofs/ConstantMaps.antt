@@ -2,7 +2,7 @@
 use Rattle.std.proofs.Common.{◌≡◌, ℕ, ◌+◌, ◌<◌, ◌≤◌, Option, None, Some, Ok, Err, List, [], ◌∷◌, ◌++◌, length, map, take, drop, get_or, refl, sym, ap, ◌∙◌, inr, arith}
 use Rattle.std.specs.Option.{option_map}
 use Rattle.std.proofs.lemmas.Bool.Decides.{nat_tests}
-use Rattle.std.proofs.lemmas.List.{append_assoc, drop_all, drop_more, map_more, take_all}
+use Rattle.std.proofs.lemmas.List.{drop_all, drop_more, take_all}
 use Rattle.map_store.specs.Initial.{HasInitial}
 use Rattle.map_store.specs.Spec.{spec_rule}
 use Rattle.run_config.specs.declared.named_map.NamedMap.{NamedMap}
@@ -43,20 +43,9 @@ module _ (file : List ℕ) (numbers : List ℕ) (i : ℕ) (known : i < length nu
       ap (λ xs. first_break (specs_of maps) (specs_of (map (constant_map file) xs))) (drop_more numbers i 0 known)
       ∙ left_from file maps (drop (i + 1) numbers) (get_or numbers i 0) rule is
 
-  -- one that breaks no rule
-  pub constants_kept : rule_behind (specs_of maps) (constant_map file (get_or numbers i 0)).spec ≡ None → first_break (specs_of maps) (specs_of (map (constant_map file) (drop i numbers))) ≡ first_break (specs_of (maps ++ constant_map file (get_or numbers i 0) ∷ [])) (specs_of (map (constant_map file) (drop (i + 1) numbers)))
-  constants_kept none = left None none
-
   -- one that breaks a rule
   constants_broken : (rule : ℕ) → rule_behind (specs_of maps) (constant_map file (get_or numbers i 0)).spec ≡ Some rule → first_break (specs_of maps) (specs_of (map (constant_map file) (drop i numbers))) ≡ Some (record { index = length maps; rule = rule })
   constants_broken rule some = left (Some rule) some
-
-  -- the maps so far, with one more
-  pub constants_pushed : (initial : List NamedMap) → maps ≡ initial ++ map (constant_map file) (take i numbers) → maps ++ constant_map file (get_or numbers i 0) ∷ [] ≡ initial ++ map (constant_map file) (take (i + 1) numbers)
-  constants_pushed initial so_far =
-      ap (λ xs. xs ++ constant_map file (get_or numbers i 0) ∷ []) so_far
-      ∙ append_assoc initial (map (constant_map file) (take i numbers)) (constant_map file (get_or numbers i 0) ∷ [])
-      ∙ ap (λ xs. initial ++ xs) (sym (map_more (constant_map file) numbers i 0 known))
 
 constants_are : (file : List ℕ) (maps : List NamedMap) (numbers : List ℕ) (broken : Option MapBreak) → first_break (specs_of maps) (specs_of (map (constant_map file) numbers)) ≡ broken → with_constants file maps numbers ≡ refuse (option_map map_refusal broken) (Ok (maps ++ map (constant_map file) numbers))
 unfolding with_constants

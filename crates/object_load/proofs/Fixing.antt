@@ -1,14 +1,13 @@
 -- Relocations that are applied one after another.
-use Rattle.std.proofs.Common.{◌≡◌, ℕ, ℤ, ◌+◌, ◌/◌, ◌%◌, ◌<◌, ◌≤◌, Bool, true, false, cond, ◌==◌, Option, None, Some, Result, Ok, Err, List, [], ◌∷◌, length, drop, get_or, refl, ap, ◌∙◌}
-use Rattle.std.specs.List.{cons_option, filter_map, slice_get}
-use Rattle.std.specs.Option.{ok_or, option_and_then, option_map}
+use Rattle.std.proofs.Common.{◌≡◌, ℕ, ◌+◌, ◌<◌, ◌≤◌, Option, None, Some, Result, Ok, Err, List, [], ◌∷◌, length, drop, get_or, refl, ap, ◌∙◌}
+use Rattle.std.specs.List.{cons_option, filter_map}
+use Rattle.std.specs.Option.{option_map}
 use Rattle.std.proofs.lemmas.List.{drop_all, drop_more}
-use Rattle.std.proofs.lemmas.Option.{slice_get_past}
 use Rattle.bpf_insn.specs.declared.insn.Insn.{Insn}
 use Rattle.elf_objects.specs.declared.reloc.Reloc.{Reloc}
 use Rattle.run_config.specs.declared.named_map.NamedMap.{NamedMap}
 use Rattle.object_load.specs.declared.pieces.Piece.{Piece}
-use Rattle.object_load.specs.Linking.{changed, changed_by, fix_at, fix_in, fixed, fixed_all, fixes_in, immediate, place_in}
+use Rattle.object_load.specs.Linking.{fix_at, fix_in, fixed, fixed_all, fixes_in, place_in}
 use Rattle.object_load.specs.Reading.{and_then}
 
 -- the fixes of one relocation, and of those behind it
@@ -48,29 +47,3 @@ module _ (file : List ℕ) (maps : List NamedMap) (own : ℕ) (piece : Piece) (r
   pub left_none : (i : ℕ) (insns : List Insn) (whole : Result (List Insn) ℕ) → length relocs ≤ i → IsLeft i insns whole → whole ≡ Ok insns
   left_none i insns whole end so_far =
       so_far ∙ ap (λ fixes. fixed_all file maps own insns fixes) (ap (fixes_in piece) (drop_all i relocs end) ∙ fixes_none piece)
-
-module _ (file : List ℕ) (maps : List NamedMap) (own : ℕ) (insns : List Insn) (place : ℕ) (reloc : Reloc) where
-  fixed_is : (whole : Bool) (at : Option Insn) → (place % 8 == 0) ≡ whole → slice_get insns (place / 8) ≡ at → fixed file maps own insns (fix_at reloc place) ≡ ok_or (cond whole (option_and_then (changed_by file maps own insns (place / 8) reloc) at) None) (place / 8)
-  unfolding fixed
-  fixed_is whole at is there =
-      ap (λ b. ok_or (cond b (option_and_then (changed_by file maps own insns (place / 8) reloc) (slice_get insns (place / 8))) None) (place / 8)) is
-      ∙ ap (λ (o : Option Insn). ok_or (cond whole (option_and_then (changed_by file maps own insns (place / 8) reloc) o) None) (place / 8)) there
-
-  pub fixed_amidst : (place % 8 == 0) ≡ false → fixed file maps own insns (fix_at reloc place) ≡ Err (place / 8)
-  fixed_amidst is = fixed_is false (slice_get insns (place / 8)) is refl
-
-  either : (b : Bool) → ok_or (cond b (option_and_then (changed_by file maps own insns (place / 8) reloc) None) None) (place / 8) ≡ Err (place / 8)
-  either true = refl
-  either false = refl
-
-  pub fixed_past : length insns ≤ place / 8 → fixed file maps own insns (fix_at reloc place) ≡ Err (place / 8)
-  fixed_past past = fixed_is (place % 8 == 0) None refl (slice_get_past insns (place / 8) past) ∙ either (place % 8 == 0)
-
-  by_imm : (insn : Insn) (imm : Option ℤ) → (place % 8 == 0) ≡ true → slice_get insns (place / 8) ≡ Some insn → immediate file maps own (place / 8) reloc insn ≡ imm → fixed file maps own insns (fix_at reloc place) ≡ ok_or (option_map (changed insns (place / 8) insn) imm) (place / 8)
-  by_imm insn imm whole there is = fixed_is true (Some insn) whole there ∙ ap (λ (o : Option ℤ). ok_or (option_map (changed insns (place / 8) insn) o) (place / 8)) is
-
-  pub fixed_not : (insn : Insn) → (place % 8 == 0) ≡ true → slice_get insns (place / 8) ≡ Some insn → immediate file maps own (place / 8) reloc insn ≡ None → fixed file maps own insns (fix_at reloc place) ≡ Err (place / 8)
-  fixed_not insn whole there none = by_imm insn None whole there none
-
-  pub fixed_made : (insn : Insn) (imm : ℤ) → (place % 8 == 0) ≡ true → slice_get insns (place / 8) ≡ Some insn → immediate file maps own (place / 8) reloc insn ≡ Some imm → fixed file maps own insns (fix_at reloc place) ≡ Ok (changed insns (place / 8) insn imm)
-  fixed_made insn imm whole there some = by_imm insn (Some imm) whole there some

@@ -4,7 +4,6 @@ pub mod Readings
 pub mod Items
 pub mod Ordering
 pub mod ProgramSymbols
-pub mod Drafting
 pub mod Refusals
 pub mod ConstantMaps
 pub mod Addressing

@@ -1,5 +1,5 @@
 -- What an object gives by the ends of the readers below.
-use Rattle.std.proofs.Common.{◌≡◌, ℕ, List, length, Option, None, Some, Ok, Err, refl, sym, ap, ◌∙◌}
+use Rattle.std.proofs.Common.{◌≡◌, ℕ, List, Option, None, Some, Ok, Err, refl, sym, ap, ◌∙◌}
 use Rattle.std.specs.Prelude.{codes}
 use Rattle.std.specs.Option.{option_map}
 use Rattle.btf_types.specs.declared.bad_btf.BadBtf.{BadBtf}
@@ -15,13 +15,11 @@ use Rattle.elf_objects.specs.Object.{content}
 use Rattle.elf_objects.specs.Object as elf
 use Rattle.run_config.specs.declared.named_map.MapsEnd.{MapsEnd}
 use Rattle.run_config.specs.declared.named_map.MapsEnd.TheVariants as maps
-use Rattle.run_config.specs.declared.named_map.NamedMap.{NamedMap}
-use Rattle.run_config.specs.Maps.{specs_of, IsFirstBreak}
-use Rattle.run_config.specs.MapRules.{rule_behind}
+use Rattle.run_config.specs.Maps.{IsFirstBreak}
 use Rattle.run_config.specs.Variables.{variables}
 use Rattle.object_load.specs.declared.refusal.LoadRefusal.TheVariants as refusal
 use Rattle.object_load.specs.Ends.{btf_end, maps_end, object_end}
-use Rattle.object_load.specs.Maps.{broken, HasVariables, IsBroken}
+use Rattle.object_load.specs.Maps.{broken, HasVariables}
 use Rattle.object_load.specs.Reading.{refuse, Answers, Is}
 use Rattle.object_load.specs.Sections.{section_named}
 use Rattle.object_load.specs.Symbols.{object_of}
@@ -65,8 +63,3 @@ module _ (file : List ℕ) (number : ℕ) (bytes : List ℕ) (there : section_na
 pub variables_refused : (file : List ℕ) (types : TypeTable) (end : MapsEnd) → ((index rule : ℕ) → end ≡ maps.BadMap index rule → IsFirstBreak types (variables types (codes ".maps")) index rule) → Answers (HasVariables file (Some types)) (Err (maps_end end))
 variables_refused file types (maps.BadMap index rule) says = broken (says index rule refl)
 variables_refused file types maps.OutOfMemory says = tt
-
--- why a map isn't put behind others
-pub broken_from : (before : List NamedMap) (one : NamedMap) (end : MapsEnd) → ((index rule : ℕ) → end ≡ maps.BadMap index rule → index ≡ length before) → ((index rule : ℕ) → end ≡ maps.BadMap index rule → rule_behind (specs_of before) one.spec ≡ Some rule) → IsBroken before one (maps_end end)
-broken_from before one (maps.BadMap index rule) place bad = (rule, bad index rule refl, ap (λ k. refusal.BadMap k rule) (place index rule refl))
-broken_from before one maps.OutOfMemory place bad = tt
