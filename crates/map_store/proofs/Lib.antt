@@ -4,6 +4,10 @@ pub mod SlotRooms
 pub mod Places
 pub mod Writes
 pub mod Indices
+pub mod Trees
+pub mod Linking
+pub mod Filing
+pub mod Searching
 pub mod Changes
 pub mod Start
 pub mod Regions

@@ -6,8 +6,8 @@ use Rattle.map_store.specs.SlotsView.{map_of}
 use Rattle.map_store.specs.declared.slots.Slots.TheInside.{Inside}
 use Rattle.map_store.proofs.SlotLists.{length-slots_in}
 
-pub shape-buffers : (s : Inside) → shape_of (map_of s) ≡ record { kind = s.kind; key_size = s.key_size; value_size = s.value_size; entries = length s.taken.items }
-shape-buffers s = rw (length-slots_in s.key_size s.value_size s.keys.items s.values.items s.taken.items) refl
+pub shape-buffers : (s : Inside) → shape_of (map_of s) ≡ record { kind = s.kind; key_size = s.key_size; value_size = s.value_size; entries = length s.taken }
+shape-buffers s = rw (length-slots_in s.key_size s.value_size s.keys.items s.values.items s.taken) refl
 
 -- other values of the same slots
 pub same-shape : (s : Inside) (values : Vec ℕ Global) (map : Map) → map_of s ≡ map → shape_of (map_of (record s { values = values })) ≡ shape_of map

@@ -15,7 +15,8 @@ use Rattle.map_store.specs.declared.spec.MapSpec.{MapSpec}
 use Rattle.map_store.specs.Spec.{is_between, has_key_size, spec_rule, rounded}
 use Rattle.map_store.specs.Initial.{IsMakeable, first_value, first_entry, first_slots}
 use Rattle.map_store.specs.Slots.{Entry, is_array}
-use Rattle.map_store.specs.SlotsView.{part, is_taken, slots_in}
+use Rattle.map_store.specs.Occupied.{is_taken}
+use Rattle.map_store.specs.SlotsView.{part, slots_in}
 use Rattle.map_store.proofs.Parts.{length-part, index-part, part-here}
 use Rattle.map_store.proofs.SlotLists.{length-slots_in, get-slots_in}
 use Rattle.map_store.proofs.Writes.{slot_in-taken, slot_in-empty}
@@ -155,7 +156,7 @@ initial_fits spec makeable = elim makeable.initial [
 ]
 
 -- the slots of the first buffers
-is_taken-replicate : (n place : ℕ) (b : Bool) → place < n → is_taken (replicate n b) place ≡ b
+pub is_taken-replicate : (n place : ℕ) (b : Bool) → place < n → is_taken (replicate n b) place ≡ b
 unfolding is_taken
 is_taken-replicate n place b below = get_or-replicate n place b false below
 

@@ -11,7 +11,8 @@ use Rattle.flat_memory.proofs.Laws.{masked-shown, masked-hidden, masked-write, w
 use Rattle.map_store.specs.Spec.{rounded}
 use Rattle.map_store.specs.Slots.{Map, map_at}
 use Rattle.map_store.specs.Values.{values_start, number_of, offset_of, values_in, values}
-use Rattle.map_store.specs.SlotsView.{is_taken, map_of, HasBuffers}
+use Rattle.map_store.specs.Occupied.{is_taken}
+use Rattle.map_store.specs.SlotsView.{map_of, HasBuffers}
 use Rattle.map_store.specs.declared.slots.Slots.TheInside.{Inside}
 use Rattle.map_store.proofs.Access.{IsSpot, IsRead, spot, values_in-taken, values_in-empty, values_in-past}
 
@@ -41,31 +42,31 @@ masked_at mask bytes k seen = let e : 0 + k ≡ k = omega arith in rw e at (mask
 unmasked_at : (mask : ℕ → Bool) (bytes : List ℕ) (k : ℕ) → mask k ≡ false → masked 0 mask bytes k ≡ None
 unmasked_at mask bytes k unseen = let e : 0 + k ≡ k = omega arith in rw e at (masked-hidden 0 mask bytes k unseen)
 
-values_at : (s : Inside) → HasBuffers s → (offset : ℕ) → values_in (map_of s) offset ≡ masked 0 (shown s.taken.items s.stride s.value_size) s.values.items offset
-values_at s ok offset = elim (cases_lt (offset / s.stride) (length s.taken.items)) [
-  | inr past ↦ values_in-past s offset ok past ∙ sym (unmasked_at _ s.values.items offset (shown-empty s.taken.items s.stride s.value_size offset (is_taken-past s.taken.items (offset / s.stride) past)))
+values_at : (s : Inside) → HasBuffers s → (offset : ℕ) → values_in (map_of s) offset ≡ masked 0 (shown s.taken s.stride s.value_size) s.values.items offset
+values_at s ok offset = elim (cases_lt (offset / s.stride) (length s.taken)) [
+  | inr past ↦ values_in-past s offset ok past ∙ sym (unmasked_at _ s.values.items offset (shown-empty s.taken s.stride s.value_size offset (is_taken-past s.taken (offset / s.stride) past)))
   | inl within ↦
       let here : IsSpot s offset (offset / s.stride) (offset % s.stride) = spot s offset ok within in
-      elim (cases_Bool (is_taken s.taken.items (offset / s.stride))) [
-        | inr unseen ↦ values_in-empty s offset _ _ ok here unseen ∙ sym (unmasked_at _ s.values.items offset (shown-empty s.taken.items s.stride s.value_size offset unseen))
+      elim (cases_Bool (is_taken s.taken (offset / s.stride))) [
+        | inr unseen ↦ values_in-empty s offset _ _ ok here unseen ∙ sym (unmasked_at _ s.values.items offset (shown-empty s.taken s.stride s.value_size offset unseen))
         | inl seen ↦ values_in-taken s offset _ _ ok here seen ∙ taken_byte s offset here seen
       ]
 ]
   where
-    taken_byte : (s : Inside) (offset : ℕ) → IsSpot s offset (offset / s.stride) (offset % s.stride) → is_taken s.taken.items (offset / s.stride) ≡ true
-        → (if nat_lt (offset % s.stride) s.value_size then slice_get s.values.items offset else None) ≡ masked 0 (shown s.taken.items s.stride s.value_size) s.values.items offset
+    taken_byte : (s : Inside) (offset : ℕ) → IsSpot s offset (offset / s.stride) (offset % s.stride) → is_taken s.taken (offset / s.stride) ≡ true
+        → (if nat_lt (offset % s.stride) s.value_size then slice_get s.values.items offset else None) ≡ masked 0 (shown s.taken s.stride s.value_size) s.values.items offset
     taken_byte s offset here seen = elim (cases_lt (offset % s.stride) s.value_size) [
-      | inl small ↦ rw (lt-ltb (offset % s.stride) s.value_size small) (sym (masked_at _ s.values.items offset (shown-true s.taken.items s.stride s.value_size offset seen small)))
-      | inr above ↦ rw (le-ltb (offset % s.stride) s.value_size above) (sym (unmasked_at _ s.values.items offset (shown-past s.taken.items s.stride s.value_size offset seen above)))
+      | inl small ↦ rw (lt-ltb (offset % s.stride) s.value_size small) (sym (masked_at _ s.values.items offset (shown-true s.taken s.stride s.value_size offset seen small)))
+      | inr above ↦ rw (le-ltb (offset % s.stride) s.value_size above) (sym (unmasked_at _ s.values.items offset (shown-past s.taken s.stride s.value_size offset seen above)))
     ]
 
-values_are-masked : (s : Inside) → HasBuffers s → values_in (map_of s) ≡ masked 0 (shown s.taken.items s.stride s.value_size) s.values.items
+values_are-masked : (s : Inside) → HasBuffers s → values_in (map_of s) ≡ masked 0 (shown s.taken s.stride s.value_size) s.values.items
 values_are-masked s ok = fun_ext (λ offset. values_at s ok offset)
 
 -- buffers with bytes written over the values
-buffers_after : (s t : Inside) (offset : ℕ) (bytes : List ℕ) → HasBuffers s → t.kind ≡ s.kind → t.key_size ≡ s.key_size → t.value_size ≡ s.value_size → t.stride ≡ s.stride → t.keys.items ≡ s.keys.items → t.taken.items ≡ s.taken.items
+buffers_after : (s t : Inside) (offset : ℕ) (bytes : List ℕ) → HasBuffers s → t.kind ≡ s.kind → t.key_size ≡ s.key_size → t.value_size ≡ s.value_size → t.stride ≡ s.stride → t.keys.items ≡ s.keys.items → t.taken ≡ s.taken → t.chains ≡ s.chains
     → t.values.items ≡ with_bytes s.values.items offset bytes → offset + length bytes ≤ length s.values.items → HasBuffers t
-buffers_after s t offset bytes ok kind key value stride keys taken wrote fits =
+buffers_after s t offset bytes ok kind key value stride keys taken chains wrote fits =
     let long : length t.values.items ≡ length s.values.items = ap length wrote ∙ length-with_bytes s.values.items offset bytes fits in
     record {
       stride = stride ∙ ok.stride ∙ ap rounded (sym value);
@@ -77,16 +78,19 @@ buffers_after s t offset bytes ok kind key value stride keys taken wrote fits =
       keys_room = rw keys ok.keys_room;
       key_small = rw key ok.key_small;
       value_small = rw value ok.value_small;
+      slots = rw taken ok.slots;
+      few = rw taken ok.few;
       array = rw (kind, key) ok.array;
       indices = rw (kind, taken, keys) ok.indices;
+      buckets = rw (kind, key, keys, taken, chains) ok.buckets;
     }
 
 pub values_after : (s t : Inside) (offset : ℕ) (bytes : List ℕ) → HasBuffers s → IsRead s offset (length bytes)
-    → t.kind ≡ s.kind → t.key_size ≡ s.key_size → t.value_size ≡ s.value_size → t.stride ≡ s.stride → t.keys.items ≡ s.keys.items → t.taken.items ≡ s.taken.items
+    → t.kind ≡ s.kind → t.key_size ≡ s.key_size → t.value_size ≡ s.value_size → t.stride ≡ s.stride → t.keys.items ≡ s.keys.items → t.taken ≡ s.taken → t.chains ≡ s.chains
     → t.values.items ≡ with_bytes s.values.items offset bytes → values_in (map_of t) ≡ written (values_in (map_of s)) offset bytes
-values_after s t offset bytes ok facts kind key value stride keys taken wrote =
-    let ok' : HasBuffers t = buffers_after s t offset bytes ok kind key value stride keys taken wrote facts.within in
-    let mask : ℕ → Bool = shown s.taken.items s.stride s.value_size in
+values_after s t offset bytes ok facts kind key value stride keys taken chains wrote =
+    let ok' : HasBuffers t = buffers_after s t offset bytes ok kind key value stride keys taken chains wrote facts.within in
+    let mask : ℕ → Bool = shown s.taken s.stride s.value_size in
     let sum : offset ≡ offset / s.stride * s.stride + offset % s.stride = facts.spot.sum in
     let step : s.value_size ≤ s.stride = ok.step in
     let fits : offset % s.stride + length bytes ≤ s.value_size = facts.fits in
@@ -95,7 +99,7 @@ values_after s t offset bytes ok facts kind key value stride keys taken wrote =
     let small : offset % s.stride + i < s.stride = omega arith in
     let q : (offset + i) / s.stride ≡ offset / s.stride = rw spread (div-mul-add (offset / s.stride) s.stride (offset % s.stride + i) small) in
     let r : (offset + i) % s.stride ≡ offset % s.stride + i = rw spread (mod-mul-add (offset / s.stride) s.stride (offset % s.stride + i) small) in
-    shown-true s.taken.items s.stride s.value_size (offset + i) (rw q facts.seen) (rw r (omega arith)) in
+    shown-true s.taken s.stride s.value_size (offset + i) (rw q facts.seen) (rw r (omega arith)) in
     let zero : 0 + offset ≡ offset = omega arith in
     values_are-masked t ok'
     ∙ rw (taken, stride, value, wrote) refl

@@ -10,7 +10,8 @@ use Rattle.map_store.specs.declared.spec.MapKind.{MapKind}
 use Rattle.map_store.specs.Spec.{rounded}
 use Rattle.map_store.specs.Slots.{Map, Entry, has_key}
 use Rattle.map_store.specs.Values.{slot_written}
-use Rattle.map_store.specs.SlotsView.{part, is_taken, slot_in, slots_in}
+use Rattle.map_store.specs.Occupied.{is_taken}
+use Rattle.map_store.specs.SlotsView.{part, slot_in, slots_in}
 use Rattle.map_store.proofs.Parts.{part-here, part-elsewhere, part-inside}
 use Rattle.map_store.proofs.SlotLists.{slots_in-set, get-slots_in}
 
@@ -62,6 +63,14 @@ has_key_in k v keys values taken place key has = elim (cases_Bool (is_taken take
   | inr unseen ↦ absurd (false≢true (rw unseen at has))
 ]
 
+-- an empty slot isn't taken
+pub untaken : (k v : ℕ) (keys values : List ℕ) (taken : List Bool) (place : ℕ) → slot_in k v keys values taken place ≡ None → is_taken taken place ≡ false
+unfolding slot_in
+untaken k v keys values taken place is = elim (cases_Bool (is_taken taken place)) [
+  | inl seen ↦ cc (rw seen at is)
+  | inr unseen ↦ unseen
+]
+
 module _ (k v : ℕ) (keys values : List ℕ) (taken : List Bool) (long : length keys ≡ length taken * k) (wide : length values ≡ length taken * rounded v) (step : v ≤ rounded v) (place : ℕ) (within : place < length taken) where
   -- the rooms of a place
   pub value_room : place * rounded v + rounded v ≤ length values
@@ -71,7 +80,7 @@ module _ (k v : ℕ) (keys values : List ℕ) (taken : List Bool) (long : length
   key_room = let e : place * k + k ≤ length taken * k = row_fits place k (length taken) k within (omega arith) in omega arith
 
   -- a part written at a place leaves those at others
-  other_key : (key : List ℕ) (other : ℕ) → length key ≡ k → other < length taken → (other ≡ place → ⊥) → part k k (with_bytes keys (place * k) key) other ≡ part k k keys other
+  pub other_key : (key : List ℕ) (other : ℕ) → length key ≡ k → other < length taken → (other ≡ place → ⊥) → part k k (with_bytes keys (place * k) key) other ≡ part k k keys other
   other_key key other size below apart = part-elsewhere k k keys key place (place * k) other (length taken) below within (omega arith) (omega arith) (omega arith) (omega arith) apart
 
   other_value : (others : List ℕ) (start other : ℕ) → place * rounded v ≤ start → start + length others ≤ place * rounded v + v → other < length taken → (other ≡ place → ⊥) → part v (rounded v) (with_bytes values start others) other ≡ part v (rounded v) values other
@@ -80,7 +89,7 @@ module _ (k v : ℕ) (keys values : List ℕ) (taken : List Bool) (long : length
   here_value : (value : List ℕ) → length value ≡ v → part v (rounded v) (with_bytes values (place * rounded v) value) place ≡ value
   here_value value size = let room : place * rounded v + rounded v ≤ length values = value_room in part-here v (rounded v) values value place (omega arith) size
 
-  here_key : (key : List ℕ) → length key ≡ k → part k k (with_bytes keys (place * k) key) place ≡ key
+  pub here_key : (key : List ℕ) → length key ≡ k → part k k (with_bytes keys (place * k) key) place ≡ key
   here_key key size = let room : place * k + k ≤ length keys = key_room in part-here k k keys key place room size
 
   -- the value of a slot that has a key, an entry in a slot, and a slot that is emptied

@@ -2,6 +2,8 @@
 #![tactic(auto)]
 
 mod buffers;
+mod chains;
+mod occupancy;
 mod search;
 mod slots;
 mod spec;

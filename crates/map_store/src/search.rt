@@ -1,20 +1,28 @@
-//! Places of keys and of empty slots.
+//! Places of keys.
 
-ghost use Rattle.std.specs.Prelude.{◌≡◌, ◌+◌, ◌*◌, ◌≤◌, nat_eq, length, take, drop, not};
+ghost use Rattle.std.specs.Prelude.{◌≡◌, ◌+◌, ◌*◌, ◌<◌, ◌≤◌, nat_eq, length, take, drop};
 ghost use Rattle.std.specs.Cmp.Lexicographic.{pointwise};
-ghost use Rattle.map_store.specs.SlotsView.{IsFirst, is_taken, has_key_at};
+ghost use Rattle.map_store.specs.SlotsView.{IsFirst, AreOfKeys, has_key_at};
 
-/// The first taken slot that has the key.
-#[tactic(auto, unfolding(crate::specs::SlotsView::has_key_at, crate::specs::SlotsView::is_taken, crate::specs::SlotsView::part))]
-pub(crate) fn first_key(keys: &[u8], taken: &[bool], key: &[u8]) -> Option<usize>
-    requires keys { length keys.now ≡ length taken.now * length key.now }
-    ensures { IsFirst (has_key_at keys.now taken.now key.now) (length taken.now) result }
+use crate::chains::{Chains, bucket_of};
+
+/// The first slot that has the key, which is in the key's bucket.
+pub(crate) fn first_key(keys: &[u8], chains: &Chains, key: &[u8]) -> Option<usize>
+    requires slots { 0 < length chains.now }
+    requires few { length chains.now ≤ 1048576 }
+    requires keys { length keys.now ≡ length chains.now * length key.now }
+    requires small { length keys.now ≤ 4194304 }
+    requires buckets { AreOfKeys (length key.now) keys.now chains.now }
+    ensures { IsFirst (has_key_at keys.now chains.now key.now) (length chains.now) result }
 {
-    let size = key.len();
-    for place in 0..taken.len() {
-        if taken[place] && is_at(keys, place * size, key) {
+    let bucket = bucket_of(key, chains.len());
+    let mut before = None;
+    while let Some(slot) = chains.next(bucket, before) {
+        let place = slot as usize;
+        if is_at(keys, place * key.len(), key) {
             return Some(place);
         }
+        before = Some(slot);
     }
     None
 }
@@ -26,17 +34,4 @@ fn is_at(keys: &[u8], start: usize, key: &[u8]) -> bool
     ensures { result ≡ pointwise nat_eq (take (length key.now) (drop start keys.now)) key.now }
 {
     &keys[start..start + key.len()] == key
-}
-
-/// The first slot that isn't taken.
-#[tactic(auto, unfolding(crate::specs::SlotsView::is_taken))]
-pub(crate) fn first_empty(taken: &[bool]) -> Option<usize>
-    ensures { IsFirst (λ place. not (is_taken taken.now place)) (length taken.now) result }
-{
-    for slot in 0..taken.len() {
-        if !taken[slot] {
-            return Some(slot);
-        }
-    }
-    None
 }

@@ -1,4 +1,4 @@
-ghost use Rattle.std.specs.Prelude.{◌≡◌, ◌+◌, ◌*◌, ◌<◌, ◌≤◌, ℕ, List, true, false, nat_eq, length, slice_index_or, None, IfSome, IfOk};
+ghost use Rattle.std.specs.Prelude.{◌≡◌, ◌+◌, ◌*◌, ◌<◌, ◌≤◌, ℕ, List, true, false, nat_eq, length, slice_index_or, None, IfSome, IfOk, if◌then◌else◌};
 ghost use Rattle.std.specs.Cmp.Lexicographic.{pointwise};
 ghost use Rattle.std.specs.Option.{option_copied};
 ghost use Rattle.byteorder.specs.Endian.{little_bytes};
@@ -9,7 +9,9 @@ ghost use Rattle.map_store.specs.Slots.{has_key, place_of, least_empty, with_ent
 ghost use Rattle.map_store.specs.SlotsView.{IsFirst};
 
 use crate::buffers::{copy_at, first_keys, first_values};
-use crate::search::{first_empty, first_key};
+use crate::chains::{Chains, bucket_of};
+use crate::occupancy::Occupancy;
+use crate::search::first_key;
 use crate::spec::{MapKind, MapSpec, rounded};
 use crate::store::{DeleteEnd, UpdateEnd};
 use bpf_insn::Size;
@@ -27,7 +29,9 @@ pub(crate) struct Slots {
     stride: usize,
     keys: Vec<u8>,
     values: Vec<u8>,
-    taken: Vec<bool>,
+    taken: Occupancy,
+    /// The chains of a hash, by which its keys are found. In an array no slot is in one.
+    chains: Chains,
 }
 
 impl Model for Slots {
@@ -53,7 +57,8 @@ impl Slots {
         ensures { IfOk result (λ map. map ≡ first_map spec.now) }
     {
         let stride = rounded(spec.value_size);
-        let is_array = spec.kind.is_array();
+        let taken = Occupancy::new(alloc, spec.max_entries, spec.kind.is_array())?;
+        let chains = Chains::new(alloc, chained_slots(spec))?;
         Ok(Slots {
             kind: spec.kind,
             key_size: spec.key_size as usize,
@@ -61,7 +66,8 @@ impl Slots {
             stride,
             keys: first_keys(alloc, spec)?,
             values: first_values(alloc, spec, stride)?,
-            taken: vec![in alloc; is_array; spec.max_entries as usize]?,
+            taken,
+            chains,
         })
     }
 
@@ -91,7 +97,7 @@ impl Slots {
         if self.kind.is_array() {
             index_of(key, self.taken.len())
         } else {
-            first_key(&self.keys, &self.taken, key)
+            first_key(&self.keys, &self.chains, key)
         }
     }
 
@@ -194,8 +200,9 @@ impl Slots {
     fn least_empty(&self) -> Option<usize>
         ensures place { result ≡ least_empty self.now.slots }
         ensures within { IfSome result (λ place. place < length self.now.slots) }
+        ensures empty { IfSome result (λ place. slice_index_or self.now.slots place None ≡ None) }
     {
-        first_empty(&self.taken)
+        self.taken.least_empty()
     }
 
     /// Writes the value of a slot, whose key stays.
@@ -211,6 +218,7 @@ impl Slots {
     /// Fills an empty slot of a hash.
     fn fill(&mut self, place: usize, key: &[u8], value: &[u8])
         requires place { place < length self.old.slots }
+        requires empty { slice_index_or self.old.slots place None ≡ None }
         requires kind { is_array self.old.kind ≡ false }
         requires key { length key.now ≡ self.old.key_size }
         requires value { length value.now ≡ self.old.value_size }
@@ -218,7 +226,9 @@ impl Slots {
     {
         copy_at(&mut self.keys, place * self.key_size, key);
         copy_at(&mut self.values, place * self.stride, value);
-        self.taken[place] = true;
+        self.taken.mark(place, true);
+        let bucket = bucket_of(key, self.chains.len());
+        self.chains.insert(place as u32, bucket);
     }
 
     /// Empties a slot of a hash.
@@ -227,7 +237,8 @@ impl Slots {
         requires kind { is_array self.old.kind ≡ false }
         ensures { self.new ≡ record self.old { slots = emptied self.old.slots place } }
     {
-        self.taken[place] = false;
+        self.taken.mark(place, false);
+        self.chains.remove(place as u32);
     }
 
     /// Whether all of so many bytes from an offset on lie in the value of one taken slot.
@@ -241,7 +252,7 @@ impl Slots {
         if place >= self.taken.len() {
             return false;
         }
-        if !self.taken[place] {
+        if !self.taken.is_taken(place) {
             return false;
         }
         byte <= self.value_size && count <= self.value_size - byte
@@ -291,6 +302,17 @@ impl Slots {
         }
         put_number(&mut self.values, offset as usize, size, value);
         true
+    }
+}
+
+/// How many slots of a map are in chains: in an array a key's place is the key itself.
+fn chained_slots(spec: &MapSpec) -> u32
+    ensures { result ≡ (if is_array spec.now.kind then 0 else spec.now.max_entries) }
+{
+    if spec.kind.is_array() {
+        0
+    } else {
+        spec.max_entries
     }
 }
 

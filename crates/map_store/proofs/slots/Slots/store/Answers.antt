@@ -44,7 +44,7 @@ returns-clause-memory c = λ _.
     let facts : IsRead c.self.inside c.args.offset (size_of c.args.size) = read_facts c.self.inside c.args.offset (size_of c.args.size) c.self.invariant (rw (← c.self.view_is) at can) in
     let size : length (stored c.args.size c.args.value) ≡ size_of c.args.size = length-stored c.args.size c.args.value in
     let after : Inside = record c.self.inside { values = with_items c.self.inside.values c.put_number.new.bytes } in
-    rw (← c.self.view_is) (values_after c.self.inside after c.args.offset (stored c.args.size c.args.value) c.self.invariant (rw size facts) refl refl refl refl refl refl
+    rw (← c.self.view_is) (values_after c.self.inside after c.args.offset (stored c.args.size c.args.value) c.self.invariant (rw size facts) refl refl refl refl refl refl refl
     (bytes_after c.self.inside.values c.deref_mut.result.now c.put_number.new.bytes (stored c.args.size c.args.value) c.args.offset c.deref_mut.ensures.value c.put_number.ensures (rw size facts.within)))
 
 pub returns-clause-shape : goal.returns-clause-shape
