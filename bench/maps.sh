@@ -3,33 +3,9 @@
 # insert take in hashes of several sizes, half full and full, and beside them the same of bench/maps.rs, the HashMap of
 # plain Rust, where rustc is there. It stands outside the gate: it proves and builds the program of bench/maps.txt over a
 # copy of the crates, and runs both, one after the other.
-set -e
-top=$(cd "$(dirname "$0")/.." && pwd)
-copy=$(mktemp -d)
-trap 'rm -rf "$copy"' EXIT
-cp "$top/crates.txt" "$copy/"
-[ ! -f "$top/HANDLES" ] || cp "$top/HANDLES" "$copy/"
-mkdir "$copy/crates"
-for crate in "$top"/crates/*/; do
-    name=$(basename "$crate")
-    mkdir "$copy/crates/$name"
-    for part in src specs proofs; do
-        [ ! -d "$crate$part" ] || cp -r "$crate$part" "$copy/crates/$name/"
-    done
-done
-echo 'maps_bench: map_store lists anyhow' >> "$copy/crates.txt"
-mkdir -p "$copy/crates/maps_bench/src"
-cp "$top/bench/maps.txt" "$copy/crates/maps_bench/src/main.rt"
-cd "$copy/crates/maps_bench"
-${RT:-rt} run > "$copy/store.out" || { cat "$copy/store.out" >&2; exit 1; }
-: > "$copy/plain.out"
-rustc=$(command -v rustc || echo "$HOME/.cargo/bin/rustc")
-if [ -x "$rustc" ]; then
-    "$rustc" -O --edition 2024 -o "$copy/plain" "$top/bench/maps.rs"
-    "$copy/plain" > "$copy/plain.out"
-else
-    echo 'no rustc here: the columns of plain Rust are left empty'
-fi
+. "$(dirname "$0")/copied.sh"
+run_over_copy maps 'map_store lists anyhow' > "$copy/store.out" || { cat "$copy/store.out" >&2; exit 1; }
+run_plain maps > "$copy/plain.out"
 
 # The number at this place of the line that begins with these two numbers.
 number() {

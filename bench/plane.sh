@@ -2,33 +2,9 @@
 # Prints a table of how often ports look at a plane while changes are published, and how long a publication takes, and
 # beside it the same of bench/plane.rs, a Mutex in plain Rust, where rustc is there. It stands outside the gate: it proves
 # and builds the program of bench/plane.txt over a copy of the crates, and runs both, one after the other.
-set -e
-top=$(cd "$(dirname "$0")/.." && pwd)
-copy=$(mktemp -d)
-trap 'rm -rf "$copy"' EXIT
-cp "$top/crates.txt" "$copy/"
-[ ! -f "$top/HANDLES" ] || cp "$top/HANDLES" "$copy/"
-mkdir "$copy/crates"
-for crate in "$top"/crates/*/; do
-    name=$(basename "$crate")
-    mkdir "$copy/crates/$name"
-    for part in src specs proofs; do
-        [ ! -d "$crate$part" ] || cp -r "$crate$part" "$copy/crates/$name/"
-    done
-done
-echo 'plane_bench: dispatch_plane xdp_state filter_rules anyhow' >> "$copy/crates.txt"
-mkdir -p "$copy/crates/plane_bench/src"
-cp "$top/bench/plane.txt" "$copy/crates/plane_bench/src/main.rt"
-cd "$copy/crates/plane_bench"
-${RT:-rt} run > "$copy/plane.out" || { cat "$copy/plane.out" >&2; exit 1; }
-: > "$copy/mutex.out"
-rustc=$(command -v rustc || echo "$HOME/.cargo/bin/rustc")
-if [ -x "$rustc" ]; then
-    "$rustc" -O --edition 2024 -o "$copy/mutex" "$top/bench/plane.rs"
-    "$copy/mutex" > "$copy/mutex.out"
-else
-    echo 'no rustc here: the column of plain Rust is left empty'
-fi
+. "$(dirname "$0")/copied.sh"
+run_over_copy plane 'dispatch_plane xdp_state filter_rules anyhow' > "$copy/plane.out" || { cat "$copy/plane.out" >&2; exit 1; }
+run_plain plane > "$copy/mutex.out"
 
 # The number at this place of the line that begins with these two words.
 number() {
