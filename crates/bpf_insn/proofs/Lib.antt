@@ -8,3 +8,4 @@ pub mod Registers
 pub mod Written
 pub mod Decoded
 pub mod Immediates
+pub mod Operations

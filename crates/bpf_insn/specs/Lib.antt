@@ -1,4 +1,5 @@
 pub mod Operation
+pub mod Operations
 pub mod Insn
 pub mod Form
 pub mod Table

@@ -10,3 +10,4 @@ pub mod Steps
 pub mod Atomics
 pub mod Answered
 pub mod MapHelpers
+pub mod Outcomes

@@ -1,4 +1,5 @@
 pub mod State
+pub mod Buffer
 pub mod Stack
 pub mod Access
 pub mod Arithmetic
@@ -6,4 +7,5 @@ pub mod Next
 pub mod Helpers
 pub mod Instruction
 pub mod Run
+pub mod Outcome
 pub mod Machine

@@ -33,9 +33,9 @@ pub record Packet : Type 0 where
   pub data_start : ℕ
   pub data_end : ℕ
 
--- a packet lies in its buffer, which is no larger than a frame may be
+-- a packet has 14 bytes, and lies in its buffer, which is no larger than a frame may be
 pub record IsPacket (packet : Packet) : Type 0 where
-  pub ordered : packet.data_start ≤ packet.data_end
+  pub least : packet.data_start + 14 ≤ packet.data_end
   pub inside : packet.data_end ≤ length packet.buffer
   pub small : length packet.buffer ≤ 0x4000
 

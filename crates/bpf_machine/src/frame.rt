@@ -1,8 +1,9 @@
-ghost use Rattle.std.specs.Prelude.{IfSome, ◌≡◌, ◌+◌, ◌-◌, ◌*◌, ◌≤◌, [], ◌++◌, length, replicate, slice_range, if◌then◌else◌, Some, None, IfOk, vec_len, false};
+ghost use Rattle.std.specs.Prelude.{IfSome, ◌≡◌, ◌+◌, ◌-◌, ◌*◌, ◌≤◌, ◌++◌, length, replicate, if◌then◌else◌, Some, None, IfOk, vec_len, false};
 ghost use Rattle.std.specs.Vec.{vec_capacity};
 ghost use Rattle.std.specs.Option.{option_copied};
 ghost use Rattle.flat_memory.specs.Numbers.{size_of, stored, with_bytes};
 ghost use Rattle.bpf_machine.specs.Access.{is_between, packet_load, packet_bytes};
+ghost use Rattle.bpf_machine.specs.Buffer.{bytes_in, filled};
 ghost use Rattle.bpf_machine.specs.State.{IsPacket, packet_start};
 
 use crate::size::bytes_of;
@@ -21,10 +22,13 @@ const MARGIN: usize = 256;
 /// How many bytes a program leaves of a packet at least.
 const LEAST: i64 = 14;
 
+/// What a frame holds at first.
+const ZEROS: [u8; 14] = [0; 14];
+
 /// How many bytes the largest packet and its margins have.
 const ROOM: usize = 0x4000;
 
-/// A packet in its buffer, which a program may make longer or shorter at both ends.
+/// A packet of at least 14 bytes in its buffer, which a program may make longer or shorter at both ends.
 #[derive(Debug, Drop)]
 pub struct Frame {
     buffer: Vec<u8>,
@@ -33,7 +37,7 @@ pub struct Frame {
 }
 
 impl Model for Frame {
-    ghost use Rattle.std.specs.Prelude.{◌≤◌, vec_len};
+    ghost use Rattle.std.specs.Prelude.{◌+◌, ◌≤◌, vec_len};
     ghost use Rattle.std.specs.Vec.{vec_capacity};
     ghost use Rattle.bpf_machine.specs.State.{Packet};
 
@@ -41,18 +45,20 @@ impl Model for Frame {
 
     ghost view = { λ f. record { buffer = f.buffer.items; data_start = f.start; data_end = f.end } };
 
-    ghost invariant = { λ f. (f.start ≤ f.end) × (f.end ≤ vec_len f.buffer) × (vec_len f.buffer ≤ 0x4000) × (0x4000 ≤ vec_capacity f.buffer) };
+    ghost invariant = { λ f. (f.start + 14 ≤ f.end) × (f.end ≤ vec_len f.buffer) × (vec_len f.buffer ≤ 0x4000) × (0x4000 ≤ vec_capacity f.buffer) };
 }
 
 impl Frame {
-    /// A frame with no packet, which has room for every packet.
+    /// A frame with room for every packet, in which 14 bytes of zero are.
     pub fn new(alloc: Global) -> Result<Self, OutOfMemory>
-        ensures { IfOk result (λ frame. frame ≡ record { buffer = []; data_start = 0; data_end = 0 }) }
+        ensures { IfOk result (λ frame. frame ≡ record { buffer = replicate 14 0; data_start = 0; data_end = 14 }) }
     {
+        let mut buffer = Vec::with_capacity(alloc, ROOM)?;
+        append(&mut buffer, &ZEROS);
         Ok(Frame {
-            buffer: Vec::with_capacity(alloc, ROOM)?,
+            buffer,
             start: 0,
-            end: 0,
+            end: ZEROS.len(),
         })
     }
 
@@ -60,11 +66,7 @@ impl Frame {
     pub fn fill(&mut self, bytes: &[u8])
         requires least { 14 ≤ length bytes.now }
         requires most { length bytes.now ≤ 15872 }
-        ensures { self.new ≡ record {
-          buffer = replicate 256 0 ++ (bytes.now ++ replicate 256 0);
-          data_start = 256;
-          data_end = 256 + length bytes.now;
-        } }
+        ensures { self.new ≡ filled bytes.now }
     {
         self.buffer.clear();
         append(&mut self.buffer, &[0; MARGIN]);
@@ -76,7 +78,9 @@ impl Frame {
 
     /// The packet's bytes.
     pub fn bytes(&self) -> &[u8]
-        ensures { result.now ≡ slice_range self.now.buffer self.now.data_start self.now.data_end }
+        ensures bytes { result.now ≡ bytes_in self.now }
+        ensures least { 14 ≤ length result.now }
+        ensures most { length result.now ≤ 16384 }
     {
         &self.buffer[self.start..self.end]
     }

@@ -1,3 +1,4 @@
 pub mod Member
+pub mod Sorted
 pub mod Chain
 pub mod Ordered

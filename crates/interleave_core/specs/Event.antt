@@ -1,5 +1,5 @@
 -- What events make of a moment, and which can't come.
-use Rattle.std.specs.Prelude.{◌≡◌, ◌<◌, true, List, length, position, Option, Some, None, if◌then◌else◌, ⊤}
+use Rattle.std.specs.Prelude.{◌≡◌, ◌<◌, true, length, position, Option, Some, None, if◌then◌else◌, ⊤}
 use Rattle.std.specs.Option.{option_map}
 use Rattle.interleave_core.specs.Moment.{Goes, Moment, Publishes, HandsIn, Carries, EndsPhase, waits_at}
 use Rattle.interleave_core.specs.Traffic.{waits}
@@ -9,9 +9,9 @@ use Rattle.interleave_core.specs.declared.event.StepEnd.{StepEnd}
 use Rattle.interleave_core.specs.declared.event.StepEnd.TheVariants.{EmptyQueue, QueueLeft}
 use Rattle.xdp_state.specs.Answer.{answer, rule_fits}
 use Rattle.xdp_state.specs.Book.{after}
-use Rattle.xdp_state.specs.declared.interface.Interface.{Interface}
 use Rattle.xdp_state.specs.declared.judgement.Judgement.{Judgement}
 use Rattle.xdp_state.specs.declared.judgement.Judgement.TheVariants.{Accepted, Shown, Refused}
+use Rattle.xdp_state.specs.declared.library.Library.{Library}
 
 -- an accepted command is published; one that is shown or refused is no step
 abbrev pub Answers : Moment → Judgement → Moment → Type 0
@@ -19,12 +19,12 @@ Answers before (Accepted change) later = Goes before (Publishes change) later
 Answers before Shown later = later ≡ before
 Answers before (Refused reason) later = later ≡ before
 
-abbrev pub Happens : List Interface → Moment → Event → Moment → Type 0
-Happens interfaces before (Command command) later =
-    Answers before (answer interfaces (after before.published) command) later
-Happens interfaces before (HandIn processor packet) later = Goes before (HandsIn processor packet) later
-Happens interfaces before (Carry processor) later = Goes before (Carries processor) later
-Happens interfaces before Barrier later = Goes before EndsPhase later
+abbrev pub Happens : Library → Moment → Event → Moment → Type 0
+Happens library before (Command command) later =
+    Answers before (answer library (after before.published) command) later
+Happens library before (HandIn processor packet) later = Goes before (HandsIn processor packet) later
+Happens library before (Carry processor) later = Goes before (Carries processor) later
+Happens library before Barrier later = Goes before EndsPhase later
 
 -- why an event can't come now
 abbrev pub refusal : Moment → Event → Option StepEnd

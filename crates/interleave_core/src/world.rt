@@ -8,6 +8,7 @@ ghost use Rattle.interleave_core.specs.Traffic.{idle, waits, with_count, with_pa
 ghost use Rattle.interleave_core.specs.declared.event.StepEnd.{StepEnd};
 ghost use Rattle.xdp_state.specs.Answer.{answer, rule_fits};
 ghost use Rattle.xdp_state.specs.Book.{after, takes};
+ghost use Rattle.xdp_state.specs.Library.{IsSound};
 ghost use Rattle.xdp_state.specs.Work.{needs_of};
 
 use crate::event::{Event, StepEnd};
@@ -16,8 +17,8 @@ use lists::{Bytes, OutOfMemory};
 use std::alloc::Global;
 use std::marker::Model;
 use xdp_state::{
-    Change, Command, HandIn, Interface, InterfaceList, Judgement, NeedsList, Packet, PlanPhase,
-    State, judge,
+    Change, Command, HandIn, Interface, InterfaceList, Judgement, Library, NeedsList, Packet,
+    PlanPhase, State, judge,
 };
 
 /// A run that goes on event by event, in any order: what was published, by processor the packets that were handed in and the
@@ -60,18 +61,19 @@ impl World {
         })
     }
 
-    /// Makes an event come, of which a command is answered for these interfaces. Its processor is there, a rule's flags are
+    /// Makes an event come, of which a command is answered for this library. Its processor is there, a rule's flags are
     /// some flags of its kind, and there are fewer than 65,536 publications where a command comes.
-    pub fn step(&mut self, interfaces: &InterfaceList, event: &Event) -> Result<(), StepEnd>
+    pub fn step(&mut self, library: &Library, event: &Event) -> Result<(), StepEnd>
         requires possible { IsPossible self.old event.now }
-        requires interfaces { length interfaces.now ≤ 8 }
-        ensures happens { OnOk result (Happens interfaces.now self.old event.now self.new) }
+        requires interfaces { length library.now.interfaces ≤ 8 }
+        requires sound { IsSound library.now }
+        ensures happens { OnOk result (Happens library.now self.old event.now self.new) }
         ensures refused { (stop : StepEnd) → refusal self.old event.now ≡ Some stop → result ≡ Err stop }
         ensures only { IfErr result (λ stop. stop ≢ StepEnd.OutOfMemory → refusal self.old event.now ≡ Some stop) }
         ensures err { OnErr result (self.new ≡ self.old) }
     {
         match event {
-            Event::Command(command) => self.answer(interfaces, command),
+            Event::Command(command) => self.answer(library, command),
             Event::HandIn { processor, packet } => self.hand_in(*processor, packet),
             Event::Carry { processor } => self.carry(*processor),
             Event::Barrier => self.end_phase(),
@@ -111,15 +113,16 @@ impl World {
         &self.state
     }
 
-    fn answer(&mut self, interfaces: &InterfaceList, command: &Command) -> Result<(), StepEnd>
+    fn answer(&mut self, library: &Library, command: &Command) -> Result<(), StepEnd>
         requires flags { rule_fits command.now ≡ true }
         requires room { length self.old.published < 65536 }
-        requires interfaces { length interfaces.now ≤ 8 }
-        ensures ok { OnOk result (Answers self.old (answer interfaces.now (after self.old.published) command.now) self.new) }
+        requires interfaces { length library.now.interfaces ≤ 8 }
+        requires sound { IsSound library.now }
+        ensures ok { OnOk result (Answers self.old (answer library.now (after self.old.published) command.now) self.new) }
         ensures only { IfErr result (λ stop. stop ≡ StepEnd.OutOfMemory) }
         ensures err { OnErr result (self.new ≡ self.old) }
     {
-        match judge(&self.state, interfaces, command) {
+        match judge(&self.state, library, command) {
             Judgement::Accepted(change) => self.publish(change),
             Judgement::Shown | Judgement::Refused(_) => Ok(()),
         }

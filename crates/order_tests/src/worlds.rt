@@ -1,6 +1,7 @@
 //! The worked rows: legal and illegal choices, two schedules, and a world that goes through its steps.
 ghost use Rattle.std.specs.Prelude.{◌^◌, ◌<◌, sum_by, IsTrue};
 ghost use Rattle.interleave_core.specs.Event.{IsPossible};
+ghost use Rattle.xdp_state.specs.Library.{IsSound};
 
 use filter_rules::Policy;
 use interleave_core::{
@@ -10,7 +11,8 @@ use lists::{Bytes, OutOfMemory};
 use std::alloc::Global;
 use std::test::Fail;
 use xdp_state::{
-    Choices, Command, CountList, Interface, InterfaceList, Mode, NeedsList, Packet, Plan, PlanPhase,
+    Choices, Command, CountList, Interface, InterfaceList, Library, Mode, NeedsList, Packet, Plan,
+    PlanPhase,
 };
 
 /// By processor, the numbers of its packets.
@@ -245,13 +247,15 @@ fn packet_of(alloc: Global, frame: &[u8; 14]) -> Result<Packet, OutOfMemory> {
 /// Makes an event come, if it is one that may be asked for.
 fn step_if_possible(
     world: &mut World,
-    interfaces: &InterfaceList,
+    library: &Library,
     event: &Event,
-) -> Option<Result<(), StepEnd>> {
-    if interfaces.len() > 8 || !is_possible(world, event) {
+) -> Option<Result<(), StepEnd>>
+    requires { IsSound library.now }
+{
+    if library.interfaces.len() > 8 || !is_possible(world, event) {
         return None;
     }
-    Some(world.step(interfaces, event))
+    Some(world.step(library, event))
 }
 
 /// Whether the processor is there, and a command has a number left.
@@ -303,10 +307,11 @@ fn only_row(tables: &[NeedsList]) -> Option<&[u32]> {
 #[test]
 fn a_world_goes_from_step_to_step(rt: HostRuntime) -> Result<(), Fail> {
     let (interfaces, mut world) = small_world(rt.alloc())?.ok_or("no world")?;
+    let library = Library::new(rt.alloc(), interfaces);
     for (asked, want) in EVENTS {
         let event = event_of(rt.alloc(), *asked)?;
         assert_eq!(rt;
-            step_if_possible(&mut world, &interfaces, &event),
+            step_if_possible(&mut world, &library, &event),
             Some(*want)
         );
     }

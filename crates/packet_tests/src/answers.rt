@@ -1,13 +1,14 @@
 //! The answers to commands, and a filter's whole life.
-ghost use Rattle.std.specs.Prelude.{◌≡◌};
+ghost use Rattle.std.specs.Prelude.{◌≡◌, IfOk};
 ghost use Rattle.xdp_state.specs.Answer.{rule_fits};
+ghost use Rattle.xdp_state.specs.Library.{IsSound};
 
 use filter_rules::{Policy, ROWS, RuleKey, RuleKind, features};
 use lists::{Bytes, OutOfMemory};
 use std::alloc::Global;
 use std::test::Fail;
 use xdp_state::{
-    Change, Command, Interface, InterfaceList, Judgement, Kind, Mode, Reason, State, judge,
+    Change, Command, Interface, InterfaceList, Judgement, Kind, Library, Mode, Reason, State, judge,
 };
 
 /// A command in a table, with the letter of its interface.
@@ -41,14 +42,26 @@ fn name(alloc: Global, letter: u8) -> Result<Bytes, OutOfMemory> {
     Ok(name)
 }
 
-/// The interfaces a and b.
-fn interfaces(alloc: Global) -> Result<InterfaceList, OutOfMemory> {
+/// The interfaces a and b, and no object.
+fn library(alloc: Global) -> Result<Library, OutOfMemory>
+    ensures { IfOk result IsSound }
+{
     let mut list = InterfaceList::new(alloc);
     for letter in [b'a', b'b'] {
         let name = name(alloc, letter)?;
         list.push(Interface { name, queues: 1 })?;
     }
-    Ok(list)
+    Ok(Library::new(alloc, list))
+}
+
+/// The answer, or none where a rule's flags aren't of its kind.
+fn judged(state: &State, library: &Library, command: &Command) -> Option<Judgement>
+    requires { IsSound library.now }
+{
+    if !rule_fits(command) || library.interfaces.len() > 8 {
+        return None;
+    }
+    Some(judge(state, library, command))
 }
 
 fn command(alloc: Global, asked: Asked) -> Result<Command, OutOfMemory> {
@@ -89,13 +102,10 @@ fn answer(
     changes: &[Change],
     asked: Asked,
 ) -> Result<Option<Judgement>, OutOfMemory> {
-    let names = interfaces(alloc)?;
+    let library = library(alloc)?;
     let state = state_after(alloc, changes)?;
     let command = command(alloc, asked)?;
-    if !rule_fits(&command) {
-        return Ok(None);
-    }
-    Ok(Some(judge(&state, &names, &command)))
+    Ok(judged(&state, &library, &command))
 }
 
 fn state_after(alloc: Global, changes: &[Change]) -> Result<State, OutOfMemory> {
@@ -186,7 +196,7 @@ fn answer_when_full(
     value: u128,
     flags: u8,
 ) -> Result<Option<Judgement>, OutOfMemory> {
-    let names = interfaces(alloc)?;
+    let library = library(alloc)?;
     let mut state = State::new(alloc)?;
     state.absorb(&attach(0, 31));
     for value in 0..u128::from(ROWS) {
@@ -194,10 +204,7 @@ fn answer_when_full(
         state.absorb(&Change::SetRule { key, flags: 4 });
     }
     let command = rule(port(value), flags, false);
-    if !rule_fits(&command) {
-        return Ok(None);
-    }
-    Ok(Some(judge(&state, &names, &command)))
+    Ok(judged(&state, &library, &command))
 }
 
 fn port(value: u128) -> RuleKey {
@@ -221,16 +228,12 @@ fn refuses_a_rule_more(rt: HostRuntime) -> Result<(), Fail> {
     Ok(())
 }
 
-/// Whether the change is taken, and then how many members, rows and publications there are.
-fn absorbed(state: &mut State, change: Change) -> (bool, usize, u32, u32) {
+/// Whether the change is taken, and then how many members two interfaces have, and how many rows and publications there are.
+fn absorbed(state: &mut State, change: Change) -> (bool, u32, u32, u32) {
     let taken = state.takes(&change);
     state.absorb(&change);
-    (
-        taken,
-        state.members().len(),
-        state.rules().len(),
-        state.count(),
-    )
+    let members = state.chain(0).len() + state.chain(1).len();
+    (taken, members, state.rules().len(), state.count())
 }
 
 #[test]
@@ -243,6 +246,7 @@ fn absorbs_each_change(rt: HostRuntime) -> Result<(), Fail> {
         (attach(1, 31), (false, 2, 1, 3)),
         (attach(8, 31), (false, 2, 1, 3)),
         (detach(8, 1, false), (false, 2, 1, 3)),
+        (Change::DetachAll { interface: 8 }, (false, 2, 1, 3)),
         (set(ETHER, 0), (false, 2, 1, 3)),
         (clear(ETHER, 4), (false, 2, 1, 3)),
         (clear(PORT, 15), (true, 2, 0, 4)),
@@ -251,6 +255,7 @@ fn absorbs_each_change(rt: HostRuntime) -> Result<(), Fail> {
         (set(ETHER, 2), (true, 2, 1, 7)),
         (detach(1, 2, false), (true, 1, 1, 8)),
         (detach(0, 1, true), (true, 0, 0, 9)),
+        (Change::DetachAll { interface: 0 }, (true, 0, 0, 10)),
     ];
     for (change, want) in rows {
         assert_eq!(rt; absorbed(&mut state, change), want);

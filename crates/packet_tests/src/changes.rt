@@ -1,6 +1,6 @@
 use filter_rules::{Policy, RuleKey, RuleRow};
 use std::test::Fail;
-use xdp_state::{Attachment, Change, Kind, Mode, State};
+use xdp_state::{Change, Kind, Member, Mode, State};
 
 #[test]
 fn absorbs_a_filter_and_a_rule(rt: HostRuntime) -> Result<(), Fail> {
@@ -27,16 +27,16 @@ fn absorbs_a_filter_and_a_rule(rt: HostRuntime) -> Result<(), Fail> {
     assert!(rt; !state.takes(&filter), "a second filter on the interface");
     state.absorb(&filter);
     assert_eq!(rt; state.count(), 2);
-    let member = Attachment {
-        interface: 0,
-        kind,
+    let member = Member {
         priority: 10,
         rank: 0,
-        mask: 4,
-        mode,
         number: 1,
+        mask: 4,
+        kind,
     };
-    assert_eq!(rt; state.members(), [member].as_slice());
+    assert_eq!(rt; state.chain(0).members().copied().next(), Some(member));
+    assert_eq!(rt; state.chain(0).len(), 1);
+    assert_eq!(rt; (state.mode(0), state.mode(1)), (Some(mode), None));
     assert_eq!(rt; state.rules().len(), 1);
     assert_eq!(rt;
         state.rules().row(0),

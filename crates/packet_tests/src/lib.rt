@@ -6,6 +6,8 @@ mod answers;
 #[cfg(test)]
 mod changes;
 #[cfg(test)]
+mod programs;
+#[cfg(test)]
 mod rules;
 #[cfg(test)]
 mod sums;

@@ -1,3 +1,4 @@
+use bpf_machine::Cause;
 use std::test::Fail;
 use xdp_state::{HitRow, Tally, Visit};
 use xio::Action;
@@ -6,8 +7,9 @@ fn visit(action: Action, rule: Option<u32>) -> Visit {
     Visit {
         number: 1,
         action,
-        rule,
+        cause: Cause::Exit,
         target: 0,
+        rule,
     }
 }
 

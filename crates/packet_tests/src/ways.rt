@@ -1,8 +1,9 @@
+use bpf_machine::Cause;
 use filter_rules::{Policy, RuleKey, features};
 use lists::{Bytes, OutOfMemory};
 use std::alloc::Global;
 use std::test::Fail;
-use xdp_state::{Change, Kind, Mode, Own, Packet, State, Visit, traverse};
+use xdp_state::{Change, InterfaceList, Kind, Library, Mode, Own, Packet, State, Visit, traverse};
 use xio::Action;
 
 fn packet(alloc: Global, bytes: &[u8; 14]) -> Result<Packet, OutOfMemory> {
@@ -39,16 +40,18 @@ fn drops_the_frame_that_a_rule_names(rt: HostRuntime) -> Result<(), Fail> {
         (3, [0x88, 0xB5], Action::Pass, None),
         (3, [0x08, 0x00], Action::Aborted, None),
     ];
-    let mut own = Own::new(rt.alloc(), 3)?;
+    let library = Library::new(rt.alloc(), InterfaceList::new(rt.alloc()));
+    let mut own = Own::new(rt.alloc(), 0, 3, 0)?;
     for (last, kind, action, rule) in rows {
         let frame = [2, 0, 0, 0, 0, last, 2, 0, 0, 0, 0, 2, kind[0], kind[1]];
-        own.prepare(&state)?;
-        traverse(&state, &mut own, &packet(rt.alloc(), &frame)?);
+        own.prepare(&state, &library)?;
+        traverse(&state, &library, &mut own, &packet(rt.alloc(), &frame)?);
         let visit = Visit {
             number: 1,
             action,
-            rule,
+            cause: Cause::Exit,
             target: 0,
+            rule,
         };
         let trip = own.trip(rt.alloc())?;
         assert_eq!(rt; (own.verdict(), own.target()), (action, 0));

@@ -1,11 +1,11 @@
 -- The table's lines, one after the other.
 use Rattle.std.proofs.Common.{◌≡◌, ℕ, suc, ◌+◌, ◌≤◌, length, List, [], ◌∷◌, ◌++◌, drop, get_or, Some, ◌∙◌, ap, arith, drop-cons}
-use Rattle.std.specs.Prelude.{find, slice_get, ◌==◌}
+use Rattle.std.specs.Prelude.{find, slice_get}
 use Rattle.std.proofs.lemmas.List.{drop_all}
 use Rattle.std.proofs.lemmas.Option.{slice_get_within, get_or_from_slice_get}
 use Rattle.filter_rules.specs.declared.rule.RuleRow.{RuleRow}
 use Rattle.xdp_state.specs.Hits.{hits_in}
-use Rattle.xdp_state.specs.declared.attachment.Attachment.{Attachment}
+use Rattle.xdp_state.specs.Members.{Attached, chain_on, is_filter}
 use Rattle.xdp_state.specs.declared.hits.HitRow.{HitRow}
 use Rattle.xdp_state.specs.declared.interface.Interface.{Interface}
 use Rattle.script_text.specs.Table.{row_line, rows_text, member_line, filters_from}
@@ -26,11 +26,11 @@ pub rows_text-none : (hits : List HitRow) (rows : List RuleRow) (place : ℕ) �
 rows_text-none hits rows place past = ap (rows_text hits) (drop_all place rows past)
 
 -- the interface at a place, and those behind it
-pub filters_from-drop : (members : List Attachment) (interfaces : List Interface) (place : ℕ) (interface : Interface) → slice_get interfaces place ≡ Some interface
+pub filters_from-drop : (members : List Attached) (interfaces : List Interface) (place : ℕ) (interface : Interface) → slice_get interfaces place ≡ Some interface
     → filters_from members place (drop place interfaces)
-    ≡ member_line interface.name (find (λ m. m.interface == place) members) ++ filters_from members (place + 1) (drop (place + 1) interfaces)
+    ≡ member_line interface.name (find (λ member. is_filter member.kind) (chain_on members place)) ++ filters_from members (place + 1) (drop (place + 1) interfaces)
 filters_from-drop members interfaces place interface here = ap (filters_from members place) (drop_at interfaces place interface here)
 
 -- behind the last interface
-pub filters_from-none : (members : List Attachment) (interfaces : List Interface) (place : ℕ) → length interfaces ≤ place → filters_from members place (drop place interfaces) ≡ []
+pub filters_from-none : (members : List Attached) (interfaces : List Interface) (place : ℕ) → length interfaces ≤ place → filters_from members place (drop place interfaces) ≡ []
 filters_from-none members interfaces place past = ap (filters_from members place) (drop_all place interfaces past)

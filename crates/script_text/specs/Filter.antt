@@ -5,7 +5,7 @@ use Rattle.filter_rules.specs.declared.policy.Policy.TheVariants.{Allow}
 use Rattle.filter_rules.specs.declared.rule.RuleKey.{RuleKey}
 use Rattle.filter_rules.specs.declared.rule.RuleKind.{RuleKind}
 use Rattle.filter_rules.specs.declared.rule.RuleKind.TheVariants as kind
-use Rattle.xdp_state.specs.declared.attachment.Mode.TheVariants.{Native}
+use Rattle.xdp_state.specs.declared.mode.Mode.TheVariants.{Native}
 use Rattle.xdp_state.specs.declared.command.Command.{Command}
 use Rattle.xdp_state.specs.declared.command.Command.TheVariants.{FilterLoad, FilterUnload, FilterRule, FilterStatus}
 use Rattle.script_text.specs.Addresses.{ether_of, ip4_of, ip6_of}

@@ -1,7 +1,10 @@
 -- The table of `xdp-filter status`, behind its first line: the interfaces with a filter, the rows, and the packets by verdict.
-use Rattle.std.specs.Prelude.{ℕ, ◌+◌, ◌==◌, List, [], ◌∷◌, ◌++◌, find, slice_index, codes, Option, Some, None}
+use Rattle.std.specs.Prelude.{ℕ, ◌+◌, List, [], ◌∷◌, ◌++◌, find, slice_index, codes, Option, Some, None}
 use Rattle.std.specs.Fmt.{decimal}
 use Rattle.std.specs.Int.{w128, to_be_bytes}
+use Rattle.chain_order.specs.declared.member.Kind.{Kind}
+use Rattle.chain_order.specs.declared.member.Kind.TheVariants.{Program, Filter}
+use Rattle.chain_order.specs.declared.member.Member.{Member}
 use Rattle.filter_rules.specs.declared.policy.Policy.{Policy}
 use Rattle.filter_rules.specs.declared.rule.RuleKey.{RuleKey}
 use Rattle.filter_rules.specs.declared.rule.RuleKind.{RuleKind}
@@ -13,9 +16,7 @@ use Rattle.script_text.specs.Vocabulary.{action_name, policy_name}
 use Rattle.script_text.specs.declared.vocabulary.BitNames.TheVariants.{Features}
 use Rattle.xdp_state.specs.Book.{Book}
 use Rattle.xdp_state.specs.Hits.{hits_in}
-use Rattle.xdp_state.specs.declared.attachment.Attachment.{Attachment}
-use Rattle.xdp_state.specs.declared.attachment.Kind.{Kind}
-use Rattle.xdp_state.specs.declared.attachment.Kind.TheVariants.{Filter}
+use Rattle.xdp_state.specs.Members.{Attached, chain_on, is_filter}
 use Rattle.xdp_state.specs.declared.hits.HitRow.{HitRow}
 use Rattle.xdp_state.specs.declared.interface.Interface.{Interface}
 use Rattle.xdp_state.specs.declared.tally.Tally.{Tally}
@@ -74,17 +75,18 @@ filter_line name policy features =
     codes "  " ++ (name ++ (codes " " ++ (policy_name policy ++ codes " "))) ++ (list_text Features features ++ codes "\n")
 
 abbrev pub kind_line : List ℕ → Kind → List ℕ
+kind_line name (Program program) = []
 kind_line name (Filter policy features) = filter_line name policy features
 
-abbrev pub member_line : List ℕ → Option Attachment → List ℕ
+abbrev pub member_line : List ℕ → Option Member → List ℕ
 member_line name (Some member) = kind_line name member.kind
 member_line name None = []
 
 -- the interfaces from this number on, those that have a filter
-abbrev pub filters_from : List Attachment → ℕ → List Interface → List ℕ
+abbrev pub filters_from : List Attached → ℕ → List Interface → List ℕ
 filters_from members place [] = []
 filters_from members place (interface ∷ more) =
-    member_line interface.name (find (λ m. m.interface == place) members) ++ filters_from members (place + 1) more
+    member_line interface.name (find (λ member. is_filter member.kind) (chain_on members place)) ++ filters_from members (place + 1) more
 
 -- packets and bytes of a verdict
 unfoldable pub verdict_line : Action → ℕ → ℕ → List ℕ

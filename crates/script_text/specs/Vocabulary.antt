@@ -3,8 +3,8 @@ use Rattle.std.specs.Prelude.{ℕ, ◌==◌, List, codes, Option, Some, None, if
 use Rattle.std.specs.Str.{bytes_eq}
 use Rattle.filter_rules.specs.declared.policy.Policy.{Policy}
 use Rattle.filter_rules.specs.declared.policy.Policy.TheVariants.{Allow, Deny}
-use Rattle.xdp_state.specs.declared.attachment.Mode.{Mode}
-use Rattle.xdp_state.specs.declared.attachment.Mode.TheVariants.{Native, Skb}
+use Rattle.xdp_state.specs.declared.mode.Mode.{Mode}
+use Rattle.xdp_state.specs.declared.mode.Mode.TheVariants.{Native, Skb}
 use Rattle.script_text.specs.declared.vocabulary.BitNames.{BitNames}
 use Rattle.script_text.specs.declared.vocabulary.BitNames.TheVariants.{Features, AddressFlags, PortFlags}
 use Rattle.xio.specs.declared.action.Action.{Action}

@@ -21,6 +21,7 @@ mod parts;
 mod piece;
 mod processor;
 mod reading;
+mod refusal;
 mod rule;
 mod script;
 mod table;

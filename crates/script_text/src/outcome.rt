@@ -1,8 +1,9 @@
 ghost use Rattle.std.specs.Prelude.{◌≡◌, IfOk};
-ghost use Rattle.script_text.specs.Texts.{counted, outcome_text, reason_text, end_text};
+ghost use Rattle.script_text.specs.Texts.{counted, outcome_text, reason_text, refused_text, end_text};
 ghost use Rattle.xio.specs.Printing.{Prints};
 
 use crate::piece::{Piece, print_line};
+use crate::refusal::refusal_print;
 use std::alloc::Global;
 use xdp_state::Reason;
 use xio::{Bytes, OutOfMemory, Printer};
@@ -22,17 +23,41 @@ pub enum Outcome {
     Barrier(u32),
 }
 
-fn reason_text(reason: Reason) -> &'static [u8]
-    ensures { result.now ≡ reason_text reason }
+/// Prints why a command is refused.
+#[tactic(auto, unfolding(crate::specs::Texts::reason_text), using(xio::proofs::PrintLemmas::printing))]
+fn reason_print<P: Printer>(printer: &mut P, reason: Reason) -> Result<(), P::End>
+    ensures { Prints P.tells P.counts (P.state printer.old) (P.state printer.new) (reason_text reason) result }
 {
     match reason {
-        Reason::NoInterface => b"no such interface",
-        Reason::FilterThere => b"filter there",
-        Reason::FilterNotThere => b"filter not there",
-        Reason::FeatureMissing => b"feature missing",
-        Reason::RulesFull => b"rules full",
-        Reason::NoSuchRule => b"no such rule",
+        Reason::NoInterface => printer.print(b"no such interface"),
+        Reason::BadObject(refusal) => {
+            printer.print(b"bad object: ")?;
+            refusal_print(printer, refusal)
+        }
+        Reason::NoSuchProgram => printer.print(b"no such program"),
+        Reason::ModeDiffers => printer.print(b"mode differs"),
+        Reason::ChainFull => printer.print(b"chain full"),
+        Reason::NothingLoaded => printer.print(b"nothing loaded"),
+        Reason::NoSuchId => printer.print(b"no such id"),
+        Reason::FilterThere => printer.print(b"filter there"),
+        Reason::FilterNotThere => printer.print(b"filter not there"),
+        Reason::FeatureMissing => printer.print(b"feature missing"),
+        Reason::RulesFull => printer.print(b"rules full"),
+        Reason::NoSuchRule => printer.print(b"no such rule"),
     }
+}
+
+/// Prints the line of a refused command.
+#[tactic(auto, using(xio::proofs::PrintLemmas::printing))]
+fn refused_print<P: Printer>(printer: &mut P, line: u32, reason: Reason) -> Result<(), P::End>
+    ensures { Prints P.tells P.counts (P.state printer.old) (P.state printer.new) (refused_text line reason) result }
+{
+    print_line(
+        printer,
+        &[Piece::Number(u128::from(line)), Piece::Text(b" refused ")],
+    )?;
+    reason_print(printer, reason)?;
+    printer.print(b"\n")
 }
 
 /// Prints a line that ends with a count.
@@ -70,18 +95,7 @@ pub fn outcome_print<P: Printer>(
             printer,
             &[Piece::Number(u128::from(line)), Piece::Text(b" ok\n")],
         ),
-        Outcome::Refused(reason) => {
-            let reason = Piece::Text(reason_text(*reason));
-            print_line(
-                printer,
-                &[
-                    Piece::Number(u128::from(line)),
-                    Piece::Text(b" refused "),
-                    reason,
-                    Piece::Text(b"\n"),
-                ],
-            )
-        }
+        Outcome::Refused(reason) => refused_print(printer, line, *reason),
         Outcome::Handed { packets } => print_counted(printer, line, b" handed ", *packets),
         Outcome::Barrier(count) => print_counted(printer, line, b" barrier ", *count),
     }

@@ -1,5 +1,6 @@
-ghost use Rattle.std.specs.Prelude.{◌≡◌, ◌==◌, find, IfOk};
+ghost use Rattle.std.specs.Prelude.{◌≡◌, ◌≤◌, find, length, IfOk};
 ghost use Rattle.xdp_state.specs.Hits.{hits_in};
+ghost use Rattle.xdp_state.specs.Members.{is_filter};
 ghost use Rattle.script_text.specs.Table.{filter_line, member_line, filters_from, row_line, rows_text, verdict_line, verdicts_text, rules_text};
 ghost use Rattle.xio.specs.Printing.{Prints};
 
@@ -9,7 +10,7 @@ use crate::vocabulary::{BitNames, action_name, policy_name};
 use crate::word_lists::{flags_print, list_print};
 use filter_rules::{Policy, RuleRow, Rules};
 use std::alloc::Global;
-use xdp_state::{Attachment, InterfaceList, Kind, State, Tally};
+use xdp_state::{Chain, InterfaceList, Kind, Member, State, Tally};
 use xio::{Action, Bytes, OutOfMemory, Printer};
 
 /// Prints an interface's filter.
@@ -36,45 +37,46 @@ fn filter_print<P: Printer>(
     printer.print(b"\n")
 }
 
-/// The interface's first member, which is its filter.
-fn member_on(members: &[Attachment], interface: u32) -> Option<Attachment>
-    ensures { result ≡ find (λ m. m.interface == interface) members.now }
+/// The first filter of a chain.
+fn filter_in(chain: &Chain) -> Option<Member>
+    ensures { result ≡ find (λ member. is_filter member.kind) chain.now }
 {
-    members
-        .iter()
+    chain
+        .members()
         .copied()
-        .find(|member| member.interface == interface)
+        .find(|member| matches!(member.kind, Kind::Filter { .. }))
 }
 
 /// Prints the line of an interface's filter, where it has one.
 fn member_print<P: Printer>(
     printer: &mut P,
     name: &[u8],
-    member: Option<Attachment>,
+    member: Option<Member>,
 ) -> Result<(), P::End>
     ensures { Prints P.tells P.counts (P.state printer.old) (P.state printer.new) (member_line name.now member) result }
 {
-    match member {
-        Some(member) => {
-            let Kind::Filter { policy, features } = member.kind;
-            filter_print(printer, name, policy, features)
-        }
-        None => Ok(()),
+    let Some(member) = member else {
+        return Ok(());
+    };
+    match member.kind {
+        Kind::Program(_) => Ok(()),
+        Kind::Filter { policy, features } => filter_print(printer, name, policy, features),
     }
 }
 
 /// Prints the lines of the interfaces that have a filter.
 fn filters_print<P: Printer>(
     printer: &mut P,
-    members: &[Attachment],
+    state: &State,
     interfaces: &InterfaceList,
 ) -> Result<(), P::End>
-    ensures { Prints P.tells P.counts (P.state printer.old) (P.state printer.new) (filters_from members.now 0 interfaces.now) result }
+    requires { length interfaces.now ≤ 8 }
+    ensures { Prints P.tells P.counts (P.state printer.old) (P.state printer.new) (filters_from state.now.members 0 interfaces.now) result }
 {
     for place in 0..interfaces.len() {
         let interface = interfaces.at(place);
-        let member = member_on(members, place);
-        member_print(printer, interface.name.as_slice(), member)?;
+        let filter = filter_in(state.chain(place));
+        member_print(printer, interface.name.as_slice(), filter)?;
     }
     Ok(())
 }
@@ -159,9 +161,10 @@ pub fn rules_print<P: Printer>(
     interfaces: &InterfaceList,
     tally: &Tally,
 ) -> Result<(), P::End>
+    requires { length interfaces.now ≤ 8 }
     ensures { Prints P.tells P.counts (P.state printer.old) (P.state printer.new) (rules_text interfaces.now state.now tally.now) result }
 {
-    filters_print(printer, state.members(), interfaces)?;
+    filters_print(printer, state, interfaces)?;
     rows_print(printer, state.rules(), tally)?;
     verdicts_print(printer, &tally.packets, &tally.bytes)
 }
@@ -173,6 +176,7 @@ pub fn rules_text(
     interfaces: &InterfaceList,
     tally: &Tally,
 ) -> Result<Bytes, OutOfMemory>
+    requires { length interfaces.now ≤ 8 }
     ensures { IfOk result (λ text. text ≡ rules_text interfaces.now state.now tally.now) }
 {
     let mut text = Bytes::new(alloc);

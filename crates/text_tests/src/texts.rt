@@ -4,6 +4,7 @@ use script_text::{
 };
 use std::alloc::Global;
 use std::test::Fail;
+use bpf_machine::Cause;
 use xdp_state::{Change, Interface, InterfaceList, Kind, Mode, Reason, State, Tally, Visit};
 use xio::{Action, Bytes, OutOfMemory};
 
@@ -183,8 +184,9 @@ fn tally(alloc: Global) -> Result<Tally, OutOfMemory> {
         let visit = Visit {
             number: 1,
             action,
-            rule: Some(rule),
+            cause: Cause::Exit,
             target: 0,
+            rule: Some(rule),
         };
         tally.add(&[visit], action, handed)?;
     }

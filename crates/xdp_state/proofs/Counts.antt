@@ -4,11 +4,12 @@ use Rattle.std.specs.List.{fold}
 use Rattle.std.proofs.lemmas.List.Sums.{fold-append}
 use Rattle.xdp_state.specs.Book.{Book, AllTaken, after, all_taken_from, applied, empty, made, takes}
 use Rattle.xdp_state.specs.declared.change.Change.{Change}
-use Rattle.xdp_state.specs.declared.change.Change.TheVariants.{Attach, Detach, SetRule, ClearRule}
+use Rattle.xdp_state.specs.declared.change.Change.TheVariants.{Attach, Detach, DetachAll, SetRule, ClearRule}
 
 pub count_made : (book : Book) (change : Change) → (made book change).count ≡ book.count + 1
 count_made book (Attach interface kind priority rank mask mode) = refl
 count_made book (Detach interface number clear_rules) = refl
+count_made book (DetachAll interface) = refl
 count_made book (SetRule key flags) = refl
 count_made book (ClearRule key flags) = refl
 

@@ -1,36 +1,39 @@
 -- What the questions of a command come to, and that what is accepted is taken.
-use Rattle.std.proofs.Common.{◌≡◌, ℕ, ◌<◌, ◌≤◌, true, false, Bool, not, nat_lt, nat_le, ◌==◌, ◌&&◌, ◌||◌, List, [], ◌∷◌, length, find, Some, None, refl, subst, arith}
+use Rattle.std.proofs.Common.{◌≡◌, ℕ, ◌<◌, ◌≤◌, true, false, Bool, not, nat_lt, nat_le, ◌==◌, ◌&&◌, ◌||◌, List, [], ◌∷◌, length, find, Option, Some, None, Result, refl, subst, arith}
 use Rattle.std.specs.List.{list_any, position, position_or_len}
 use Rattle.std.specs.Option.{unwrap_or, is_some}
+use Rattle.std.specs.Prelude.{slice_get}
 use Rattle.std.proofs.lemmas.Bool.Decides.{nat_tests}
 use Rattle.std.proofs.lemmas.Grind.{common_steps}
-use Rattle.xdp_state.specs.Answer.{answer, first_of, load_answer, unload_answer, set_answer, clear_answer, rule_fits, lacks_feature}
+use Rattle.chain_order.specs.declared.member.Kind.{Kind}
+use Rattle.chain_order.specs.declared.member.Kind.TheVariants as kind
 use Rattle.filter_rules.specs.Rules.{has_row, has_rule}
 use Rattle.filter_rules.specs.declared.rule.RuleKey.{RuleKey}
-use Rattle.xdp_state.specs.Book.{Book, takes, fits, has_place, has_own_flags}
+use Rattle.object_load.specs.declared.program.Program.{Program}
+use Rattle.xdp_state.specs.Answer.{answer, at_interface, attach_answer, clear_answer, filter_answer, filter_off_answer, first_of, lacks_feature, load_answer, load_change, loaded_at, object_answer, off_answer, off_change, program_answer, rule_fits, set_answer, status_answer, is_asked}
+use Rattle.xdp_state.specs.Book.{Book, fits, has_own_flags, has_place, takes}
 use Rattle.xdp_state.specs.Interfaces.{has_name, is_declared, interface_named}
-use Rattle.xdp_state.specs.Members.{members_of, members_off, has_filter, is_filter, filter_number}
-use Rattle.xdp_state.specs.declared.attachment.Attachment.{Attachment}
-use Rattle.xdp_state.specs.declared.attachment.Kind.{Kind}
-use Rattle.xdp_state.specs.declared.attachment.Mode.{Mode}
+use Rattle.xdp_state.specs.Library.{filter_name, rank}
+use Rattle.xdp_state.specs.Members.{chain_on, differs, filter_number, has_filter, has_filter_elsewhere, has_filter_somewhere, is_filter, mode_on}
 use Rattle.xdp_state.specs.declared.change.Change.{Change}
-use Rattle.xdp_state.specs.declared.change.Change.TheVariants.{SetRule, ClearRule}
+use Rattle.xdp_state.specs.declared.change.Change.TheVariants.{Attach, Detach, DetachAll, SetRule, ClearRule}
 use Rattle.xdp_state.specs.declared.command.Command.{Command}
-use Rattle.xdp_state.specs.declared.command.Command.TheVariants.{FilterLoad, FilterUnload, FilterRule, FilterStatus}
+use Rattle.xdp_state.specs.declared.command.Command.TheVariants.{LoaderLoad, LoaderUnload, LoaderStatus, FilterLoad, FilterUnload, FilterRule, FilterStatus}
+use Rattle.xdp_state.specs.declared.command.LoadWords.{LoadWords}
 use Rattle.xdp_state.specs.declared.interface.Interface.{Interface}
-use Rattle.xdp_state.specs.declared.judgement.Judgement.TheVariants.{Accepted}
+use Rattle.xdp_state.specs.declared.judgement.Judgement.{Judgement}
+use Rattle.xdp_state.specs.declared.judgement.Judgement.TheVariants.{Accepted, Shown, Refused}
 use Rattle.xdp_state.specs.declared.judgement.Reason.{Reason}
 use Rattle.xdp_state.specs.declared.judgement.Reason.TheVariants.{FilterNotThere, FeatureMissing, RulesFull, NoSuchRule}
-use Rattle.xdp_state.proofs.Members.{all_filters}
+use Rattle.xdp_state.specs.declared.library.Library.{Library}
+use Rattle.xdp_state.specs.declared.library.Loaded.{Loaded}
+use Rattle.xdp_state.specs.declared.library.Loaded.TheVariants as loaded
+use Rattle.xdp_state.specs.declared.mode.Mode.{Mode}
 
 -- an interface is declared where its place is one of the list
 place-any : {X : Type 0} (p : X → Bool) (xs : List X) → nat_lt (position_or_len p xs) (length xs) ≡ list_any p xs
 place-any p [] = refl
 place-any p (x ∷ xs) = grind (arith, common_steps, nat_tests, place-any p xs)
-
-place-within : {X : Type 0} (p : X → Bool) (xs : List X) → position_or_len p xs ≤ length xs
-place-within p [] = omega arith
-place-within p (x ∷ xs) = grind (arith, common_steps, nat_tests, place-within p xs)
 
 pub place-none : (interfaces : List Interface) (name : List ℕ) → None ≡ position (has_name name) interfaces → is_declared interfaces name ≡ false
 place-none interfaces name is = grind (arith, nat_tests, place-any (has_name name) interfaces)
@@ -46,80 +49,132 @@ pub ruleset places = (place-none, place-some)
 place-below : {X : Type 0} (p : X → Bool) (xs : List X) → list_any p xs ≡ true → unwrap_or (position p xs) (length xs) < length xs
 place-below p xs any = grind (arith, nat_tests, place-any p xs)
 
--- the member of an interface is its filter
-pub filter_there : (ms : List Attachment) (i : ℕ) → has_filter (members_of ms i) ≡ is_some (find (λ m. m.interface == i) ms)
-filter_there [] i = refl
-filter_there (m ∷ ms) i =
-    let filter : is_filter m.kind ≡ true = all_filters m.kind in
-    grind (arith, nat_tests, filter_there ms i)
-
-pub filter-number : (ms : List Attachment) (i : ℕ) (m : Attachment) → Some m ≡ find (λ m. m.interface == i) ms → filter_number (members_of ms i) ≡ m.number
-filter-number [] i m is = absurd cc
-filter-number (x ∷ ms) i m is =
-    let filter : is_filter x.kind ≡ true = all_filters x.kind in
-    grind (arith, nat_tests, filter-number ms i m)
-
-pub filter-elsewhere : (ms : List Attachment) (i : ℕ) → list_any (λ m. not (m.interface == i)) ms ≡ has_filter (members_off ms i)
-filter-elsewhere [] i = refl
-filter-elsewhere (m ∷ ms) i =
-    let filter : is_filter m.kind ≡ true = all_filters m.kind in
-    grind (arith, nat_tests, filter-elsewhere ms i)
-
 -- where a change is accepted no objection held
-two-objections : (a b : Bool) (r s : Reason) (change accepted : Change) → first_of (record { holds = a; reason = r } ∷ record { holds = b; reason = s } ∷ []) change ≡ Accepted accepted → record { first : a ≡ false; second : b ≡ false; change : change ≡ accepted }
-two-objections true b r s change accepted is = absurd cc
-two-objections false true r s change accepted is = absurd cc
-two-objections false false r s change accepted is = record { first = refl; second = refl; change = cc }
+record Passed (holds : Bool) (rest : Judgement) (change : Change) : Type 0 where
+  none : holds ≡ false
+  later : rest ≡ Accepted change
 
-three-objections : (a b c : Bool) (r s t : Reason) (change accepted : Change) → first_of (record { holds = a; reason = r } ∷ record { holds = b; reason = s } ∷ record { holds = c; reason = t } ∷ []) change ≡ Accepted accepted → record { third : c ≡ false; change : change ≡ accepted }
-three-objections true b c r s t change accepted is = absurd cc
-three-objections false true c r s t change accepted is = absurd cc
-three-objections false false true r s t change accepted is = absurd cc
-three-objections false false false r s t change accepted is = record { third = refl; change = cc }
+passed : (holds : Bool) (reason : Reason) (rest : Judgement) (change : Change) → first_of (record { holds = holds; reason = reason } ∷ []) rest ≡ Accepted change → Passed holds rest change
+passed true reason rest change is = absurd cc
+passed false reason rest change is = record { none = refl; later = is }
 
-has_place-free : (there : List Attachment) (mode : Mode) → has_filter there ≡ false → has_place there mode ≡ true
-has_place-free [] mode free = refl
-has_place-free (m ∷ ms) mode free =
-    let filter : is_filter m.kind ≡ true = all_filters m.kind in
-    absurd (grind (arith, nat_tests))
+-- the rest of the objections
+first_two : (a b : Bool) (r s : Reason) (rest : Judgement) → first_of (record { holds = a; reason = r } ∷ record { holds = b; reason = s } ∷ []) rest ≡ first_of (record { holds = a; reason = r } ∷ []) (first_of (record { holds = b; reason = s } ∷ []) rest)
+first_two true b r s rest = refl
+first_two false b r s rest = refl
 
-named-below : (interfaces : List Interface) (name : List ℕ) → length interfaces ≤ 8 → not (is_declared interfaces name) ≡ false → nat_lt (interface_named interfaces name) 8 ≡ true
-named-below interfaces name few declared =
-    let any : is_declared interfaces name ≡ true = grind (arith, nat_tests) in
-    let below : interface_named interfaces name < length interfaces = place-below (has_name name) interfaces any in
+accepted_same : (a b : Change) → Accepted a ≡ Accepted b → a ≡ b
+accepted_same a b same = cc
+
+named-below : (library : Library) (name : List ℕ) → length library.interfaces ≤ 8 → not (is_declared library.interfaces name) ≡ false → nat_lt (interface_named library.interfaces name) 8 ≡ true
+named-below library name few declared =
+    let any : is_declared library.interfaces name ≡ true = grind (arith, nat_tests) in
+    let below : interface_named library.interfaces name < length library.interfaces = place-below (has_name name) library.interfaces any in
     grind (arith, nat_tests)
 
-load-taken : (interfaces : List Interface) (book : Book) (name : List ℕ) (kind : Kind) (mode : Mode) (change : Change) → nat_lt book.count 65536 ≡ true → length interfaces ≤ 8 → load_answer interfaces book name kind mode ≡ Accepted change → takes book change ≡ true
-load-taken interfaces book name kind mode change count few is =
-    let h = two-objections _ _ _ _ _ change is in
-    let place : has_place (members_of book.members (interface_named interfaces name)) mode ≡ true = has_place-free _ mode h.second in
-    let below : nat_lt (interface_named interfaces name) 8 ≡ true = named-below interfaces name few h.first in
-    subst (λ change. takes book change ≡ true) h.change (rw (count, below, place) refl)
+-- what is accepted for an interface is accepted for one of eight
+record AtInterface (library : Library) (name : List ℕ) (judged : ℕ → Judgement) (change : Change) : Type 0 where
+  below : nat_lt (interface_named library.interfaces name) 8 ≡ true
+  there : judged (interface_named library.interfaces name) ≡ Accepted change
 
-unload-taken : (interfaces : List Interface) (book : Book) (name : List ℕ) (keep : Bool) (change : Change) → nat_lt book.count 65536 ≡ true → length interfaces ≤ 8 → unload_answer interfaces book name keep ≡ Accepted change → takes book change ≡ true
-unload-taken interfaces book name keep change count few is =
-    let h = two-objections _ _ _ _ _ change is in
-    let below : nat_lt (interface_named interfaces name) 8 ≡ true = named-below interfaces name few h.first in
-    subst (λ change. takes book change ≡ true) h.change (rw (count, below) refl)
+at_interface-accepted : (library : Library) (name : List ℕ) (judged : ℕ → Judgement) (change : Change) → length library.interfaces ≤ 8 → at_interface library name judged ≡ Accepted change → AtInterface library name judged change
+at_interface-accepted library name judged change few is =
+    let h = passed (not (is_declared library.interfaces name)) _ (judged (interface_named library.interfaces name)) change is in
+    record { below = named-below library name few h.none; there = h.later }
+
+-- an interface that takes a member of a mode
+record Takes (book : Book) (interface : ℕ) (mode : Mode) (asked change : Change) : Type 0 where
+  mode : differs (mode_on book.members interface) mode ≡ false
+  room : nat_lt (length (chain_on book.members interface)) 10 ≡ true
+  change : asked ≡ change
+
+attach-accepted : (book : Book) (interface : ℕ) (mode : Mode) (asked change : Change) → attach_answer book interface mode asked ≡ Accepted change → Takes book interface mode asked change
+attach-accepted book interface mode asked change is =
+    let one = passed (differs (mode_on book.members interface) mode) _ _ change (subst (λ j. j ≡ Accepted change) (first_two _ _ _ _ (Accepted asked)) is) in
+    let two = passed (nat_le 10 (length (chain_on book.members interface))) _ (Accepted asked) change one.later in
+    record { mode = one.none; room = (let full = two.none in grind (arith, nat_tests)); change = accepted_same asked change two.later }
+
+attach-taken : (book : Book) (interface priority rank mask : ℕ) (k : Kind) (mode : Mode) (change : Change) → nat_lt book.count 65536 ≡ true → nat_lt interface 8 ≡ true → (is_filter k && has_filter (chain_on book.members interface)) ≡ false
+    → attach_answer book interface mode (Attach interface k priority rank mask mode) ≡ Accepted change → takes book change ≡ true
+attach-taken book interface priority rank mask k mode change count below alone is =
+    let h = attach-accepted book interface mode (Attach interface k priority rank mask mode) change is in
+    subst (λ change. takes book change ≡ true) h.change (rw (count, below, h.room, h.mode, alone) refl)
+
+program-taken : (library : Library) (book : Book) (interface : ℕ) (words : LoadWords) (place : ℕ) (o : Option Program) (change : Change) → nat_lt book.count 65536 ≡ true → nat_lt interface 8 ≡ true → program_answer library book interface words place o ≡ Accepted change → takes book change ≡ true
+program-taken library book interface words place None change count below is = absurd cc
+program-taken library book interface words place (Some program) change count below is =
+    attach-taken book interface _ (rank library program.name) _ _ words.mode change count below refl is
+
+object-taken : (library : Library) (book : Book) (interface : ℕ) (words : LoadWords) (o : Option Loaded) (change : Change) → nat_lt book.count 65536 ≡ true → nat_lt interface 8 ≡ true → object_answer library book interface words o ≡ Accepted change → takes book change ≡ true
+object-taken library book interface words None change count below is = absurd cc
+object-taken library book interface words (Some (loaded.Refused refusal)) change count below is = absurd cc
+object-taken library book interface words (Some (loaded.Programs programs)) change count below is =
+    let place : ℕ = unwrap_or (position (is_asked words) programs) (length programs) in
+    program-taken library book interface words place (slice_get programs place) change count below is
+
+load-taken : (library : Library) (book : Book) (words : LoadWords) (change : Change) → nat_lt book.count 65536 ≡ true → length library.interfaces ≤ 8 → load_answer library book words ≡ Accepted change → takes book change ≡ true
+load-taken library book words change count few is =
+    let h = at_interface-accepted library words.interface _ change few is in
+    object-taken library book (interface_named library.interfaces words.interface) words (loaded_at library words.object) change count h.below h.there
+
+off-change : (book : Book) (interface : ℕ) (id : Option ℕ) (change : Change) → nat_lt book.count 65536 ≡ true → nat_lt interface 8 ≡ true → off_change interface id ≡ change → takes book change ≡ true
+off-change book interface None change count below is = subst (λ change. takes book change ≡ true) is (rw (count, below) refl)
+off-change book interface (Some id) change count below is = subst (λ change. takes book change ≡ true) is (rw (count, below) refl)
+
+off-taken : (library : Library) (book : Book) (name : List ℕ) (id : Option ℕ) (change : Change) → nat_lt book.count 65536 ≡ true → length library.interfaces ≤ 8 → at_interface library name (λ interface. off_answer book interface id) ≡ Accepted change → takes book change ≡ true
+off-taken library book name id change count few is =
+    let h = at_interface-accepted library name _ change few is in
+    let interface : ℕ = interface_named library.interfaces name in
+    let one = passed _ _ _ change (subst (λ j. j ≡ Accepted change) (first_two _ _ _ _ (Accepted (off_change interface id))) h.there) in
+    let two = passed _ _ (Accepted (off_change interface id)) change one.later in
+    off-change book interface id change count h.below (accepted_same _ change two.later)
+
+status-taken : (library : Library) (name : Option (List ℕ)) (change : Change) → status_answer library name ≡ Accepted change → ⊥
+status-taken library None change is = cc
+status-taken library (Some name) change is =
+    let h = passed (not (is_declared library.interfaces name)) _ Shown change is in
+    let shown = h.later in cc
+
+filter-taken : (library : Library) (book : Book) (name : List ℕ) (k : Kind) (mode : Mode) (change : Change) → nat_lt book.count 65536 ≡ true → length library.interfaces ≤ 8 → at_interface library name (filter_answer library book k mode) ≡ Accepted change → takes book change ≡ true
+filter-taken library book name k mode change count few is =
+    let h = at_interface-accepted library name _ change few is in
+    let interface : ℕ = interface_named library.interfaces name in
+    let one = passed (has_filter (chain_on book.members interface)) _ _ change h.there in
+    attach-taken book interface 10 (rank library filter_name) 4 k mode change count h.below (none_both (is_filter k) _ one.none) one.later
+  where
+    none_both : (a b : Bool) → b ≡ false → (a && b) ≡ false
+    none_both true b h = h
+    none_both false b h = refl
+
+filter_off-taken : (library : Library) (book : Book) (name : List ℕ) (keep : Bool) (change : Change) → nat_lt book.count 65536 ≡ true → length library.interfaces ≤ 8 → at_interface library name (filter_off_answer book keep) ≡ Accepted change → takes book change ≡ true
+filter_off-taken library book name keep change count few is =
+    let h = at_interface-accepted library name _ change few is in
+    let one = passed _ _ _ change h.there in
+    subst (λ change. takes book change ≡ true) (accepted_same _ change one.later) (let below = h.below in rw (count, below) refl)
 
 set-taken : (book : Book) (key : RuleKey) (flags : ℕ) (change : Change) → nat_lt book.count 65536 ≡ true → has_own_flags key flags ≡ true → set_answer book key flags ≡ Accepted change → takes book change ≡ true
 set-taken book key flags change count own is =
-    let h = three-objections (not (has_filter book.members)) (lacks_feature book.members key.kind flags) (not (has_row book.rows key) && nat_le 4096 (length book.rows)) FilterNotThere FeatureMissing RulesFull (SetRule key flags) change is in
-    let place : (has_row book.rows key || nat_lt (length book.rows) 4096) ≡ true = grind (arith, nat_tests, h.third) in
-    subst (λ change. takes book change ≡ true) h.change (rw (count, own, place) refl)
+    let h = three (not (has_filter_somewhere book.members)) (lacks_feature book.members key.kind flags) (not (has_row book.rows key) && nat_le 4096 (length book.rows)) FilterNotThere FeatureMissing RulesFull (SetRule key flags) change is in
+    let place : (has_row book.rows key || nat_lt (length book.rows) 4096) ≡ true = (let full = h.none in grind (arith, nat_tests)) in
+    subst (λ change. takes book change ≡ true) (accepted_same _ change h.later) (rw (count, own, place) refl)
+  where
+    three : (a b c : Bool) (r s t : Reason) (asked change : Change) → first_of (record { holds = a; reason = r } ∷ record { holds = b; reason = s } ∷ record { holds = c; reason = t } ∷ []) (Accepted asked) ≡ Accepted change → Passed c (Accepted asked) change
+    three true b c r s t asked change is = absurd cc
+    three false true c r s t asked change is = absurd cc
+    three false false c r s t asked change is = passed c t (Accepted asked) change is
 
 clear-taken : (book : Book) (key : RuleKey) (flags : ℕ) (change : Change) → nat_lt book.count 65536 ≡ true → has_own_flags key flags ≡ true → clear_answer book key flags ≡ Accepted change → takes book change ≡ true
 clear-taken book key flags change count own is =
-    let h = two-objections (not (has_filter book.members)) (not (has_rule book.rows key flags)) FilterNotThere NoSuchRule (ClearRule key flags) change is in
-    subst (λ change. takes book change ≡ true) h.change (rw (count, own) refl)
+    let one = passed _ _ _ change (subst (λ j. j ≡ Accepted change) (first_two (not (has_filter_somewhere book.members)) (not (has_rule book.rows key flags)) FilterNotThere NoSuchRule (Accepted (ClearRule key flags))) is) in
+    let two = passed _ _ (Accepted (ClearRule key flags)) change one.later in
+    subst (λ change. takes book change ≡ true) (accepted_same _ change two.later) (rw (count, own) refl)
 
-pub answer-taken : (interfaces : List Interface) (book : Book) (command : Command) (change : Change) → rule_fits command ≡ true → book.count < 65536 → length interfaces ≤ 8 → answer interfaces book command ≡ Accepted change → takes book change ≡ true
-answer-taken interfaces book (FilterLoad name mode policy features) change fits room few is =
-    load-taken interfaces book name _ mode change (grind (arith, nat_tests)) few is
-answer-taken interfaces book (FilterUnload name keep) change fits room few is =
-    unload-taken interfaces book name keep change (grind (arith, nat_tests)) few is
-answer-taken interfaces book (FilterRule key flags true) change fits room few is =
-    clear-taken book key flags change (grind (arith, nat_tests)) fits is
-answer-taken interfaces book (FilterRule key flags false) change fits room few is =
-    set-taken book key flags change (grind (arith, nat_tests)) fits is
-answer-taken interfaces book FilterStatus change fits room few is = absurd cc
+pub answer-taken : (library : Library) (book : Book) (command : Command) (change : Change) → rule_fits command ≡ true → length library.interfaces ≤ 8 → answer library book command ≡ Accepted change → book.count < 65536 → takes book change ≡ true
+answer-taken library book (LoaderLoad words) change fits few is room = load-taken library book words change (grind (arith, nat_tests)) few is
+answer-taken library book (LoaderUnload name id) change fits few is room = off-taken library book name id change (grind (arith, nat_tests)) few is
+answer-taken library book (LoaderStatus name) change fits few is room = absurd (status-taken library name change is)
+answer-taken library book (FilterLoad name mode policy features) change fits few is room = filter-taken library book name _ mode change (grind (arith, nat_tests)) few is
+answer-taken library book (FilterUnload name keep) change fits few is room = filter_off-taken library book name keep change (grind (arith, nat_tests)) few is
+answer-taken library book (FilterRule key flags true) change fits few is room = clear-taken book key flags change (grind (arith, nat_tests)) fits is
+answer-taken library book (FilterRule key flags false) change fits few is room = set-taken book key flags change (grind (arith, nat_tests)) fits is
+answer-taken library book FilterStatus change fits few is room = absurd cc

@@ -1,20 +1,18 @@
 -- What a list of changes makes, from nothing.
-use Rattle.std.specs.Prelude.{◌≡◌, ℕ, ◌+◌, ◌==◌, ◌&&◌, ◌||◌, Bool, true, false, not, nat_lt, nat_le, List, [], ◌∷◌, ◌++◌, length, fold, if◌then◌else◌}
-use Rattle.std.specs.List.{list_all}
+use Rattle.std.specs.Prelude.{◌≡◌, ℕ, ◌+◌, ◌==◌, ◌&&◌, ◌||◌, Bool, true, not, nat_lt, nat_le, List, [], ◌∷◌, ◌++◌, length, fold, if◌then◌else◌}
+use Rattle.chain_order.specs.declared.member.Kind.{Kind}
 use Rattle.filter_rules.specs.Rule.{all_flags}
 use Rattle.filter_rules.specs.Rules.{has_row, set_rule, clear_rule}
 use Rattle.filter_rules.specs.declared.rule.RuleKey.{RuleKey}
 use Rattle.filter_rules.specs.declared.rule.RuleRow.{RuleRow}
-use Rattle.xdp_state.specs.Members.{members_of, members_without, has_filter}
-use Rattle.xdp_state.specs.declared.attachment.Attachment.{Attachment}
-use Rattle.xdp_state.specs.declared.attachment.Mode.{Mode}
-use Rattle.xdp_state.specs.declared.attachment.Mode.TheVariants.{Native, Skb}
+use Rattle.xdp_state.specs.Members.{Attached, chain_on, differs, has_filter, is_filter, members_off, members_without, mode_on}
 use Rattle.xdp_state.specs.declared.change.Change.{Change}
-use Rattle.xdp_state.specs.declared.change.Change.TheVariants.{Attach, Detach, SetRule, ClearRule}
+use Rattle.xdp_state.specs.declared.change.Change.TheVariants.{Attach, Detach, DetachAll, SetRule, ClearRule}
+use Rattle.xdp_state.specs.declared.mode.Mode.{Mode}
 
 pub record Book : Type 0 where
   -- in order of attaching
-  pub members : List Attachment
+  pub members : List Attached
   -- in order of making
   pub rows : List RuleRow
   -- of the publications so far
@@ -23,14 +21,11 @@ pub record Book : Type 0 where
 abbrev pub empty : Book
 empty = record { members = []; rows = []; count = 0 }
 
-abbrev pub same_mode : Mode → Mode → Bool
-same_mode Native Native = true
-same_mode Skb Skb = true
-same_mode _ _ = false
-
--- fewer than ten members are there, none of another mode, and no filter
-abbrev pub has_place : List Attachment → Mode → Bool
-has_place there mode = nat_lt (length there) 10 && list_all (λ m. same_mode m.mode mode) there && not (has_filter there)
+-- an interface has fewer than ten members, in no other mode, and where a filter comes no filter
+abbrev pub has_place : List Attached → ℕ → Kind → Mode → Bool
+has_place members interface kind mode =
+    nat_lt (length (chain_on members interface)) 10 && not (differs (mode_on members interface) mode)
+    && not (is_filter kind && has_filter (chain_on members interface))
 
 -- some flags of the key's kind
 abbrev pub has_own_flags : RuleKey → ℕ → Bool
@@ -39,8 +34,9 @@ has_own_flags key flags = not (flags == 0) && nat_le flags (all_flags key.kind)
 -- the book takes the change
 abbrev pub fits : Book → Change → Bool
 fits book (Attach interface kind priority rank mask mode) =
-    nat_lt interface 8 && has_place (members_of book.members interface) mode
+    nat_lt interface 8 && has_place book.members interface kind mode
 fits book (Detach interface number clear_rules) = nat_lt interface 8
+fits book (DetachAll interface) = nat_lt interface 8
 fits book (SetRule key flags) = has_own_flags key flags && (has_row book.rows key || nat_lt (length book.rows) 4096)
 fits book (ClearRule key flags) = has_own_flags key flags
 
@@ -52,18 +48,18 @@ abbrev pub made : Book → Change → Book
 made book (Attach interface kind priority rank mask mode) = record book {
   members = book.members ++ record {
     interface = interface;
-    kind = kind;
-    priority = priority;
-    rank = rank;
-    mask = mask;
     mode = mode;
-    number = book.count + 1;
+    member = record { priority = priority; rank = rank; number = book.count + 1; mask = mask; kind = kind };
   } ∷ [];
   count = book.count + 1;
 }
 made book (Detach interface number clear_rules) = record {
   members = members_without book.members interface number;
   rows = if clear_rules then [] else book.rows;
+  count = book.count + 1;
+}
+made book (DetachAll interface) = record book {
+  members = members_off book.members interface;
   count = book.count + 1;
 }
 made book (SetRule key flags) = record book {

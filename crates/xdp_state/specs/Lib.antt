@@ -6,12 +6,16 @@ pub mod Handed
 pub mod Hits
 pub mod Interfaces
 pub mod Legal
+pub mod Library
 pub mod Members
 pub mod Own
 pub mod OwnView
 pub mod PacketView
 pub mod RunSums
+pub mod Standing
 pub mod State
+pub mod StoreView
+pub mod Stores
 pub mod Sums
 pub mod SumsView
 pub mod Traversal

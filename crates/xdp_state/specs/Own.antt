@@ -1,8 +1,9 @@
-use Rattle.std.specs.Prelude.{◌≤◌, length}
 use Rattle.xdp_state.specs.Book.{Book}
-use Rattle.xdp_state.specs.Members.{members_of}
 use Rattle.xdp_state.specs.Carrier.{Carrier}
+use Rattle.xdp_state.specs.Members.{chain_on}
+use Rattle.xdp_state.specs.Stores.{AreReady}
+use Rattle.xdp_state.specs.declared.library.Library.{Library}
 
--- there is room for a visit of each member that the interface has
-abbrev pub IsPrepared : Carrier → Book → Type 0
-IsPrepared own book = length (members_of book.members own.interface) ≤ own.room
+-- each program of the interface has its own maps
+abbrev pub IsPrepared : Library → Carrier → Book → Type 0
+IsPrepared library own book = AreReady library own.standing.stores (chain_on book.members own.standing.interface)

@@ -1,15 +1,27 @@
--- How a processor's own fields stand for its way, and the room of a frame.
-use Rattle.std.specs.Prelude.{◌≤◌, vec_capacity}
+-- How a processor's own fields stand for where it is and for its last way, and the room that it keeps.
+use Rattle.std.specs.Prelude.{◌<◌, ◌≤◌, vec_capacity}
 use Rattle.std.specs.Option.{option_map}
+use Rattle.bpf_machine.specs.Buffer.{bytes_in}
 use Rattle.xdp_state.specs.Carrier.{Carrier}
 use Rattle.xdp_state.specs.declared.own.Own.TheInside.{Inside}
 
 abbrev pub view_of : Inside → Carrier
 view_of own = record {
-  interface = own.interface;
-  room = vec_capacity own.visits;
-  trip = option_map (λ verdict. record { visits = own.visits.items; verdict = verdict; target = own.target; frame = own.frame.items }) own.verdict;
+  standing = record {
+    processor = own.processor;
+    interface = own.interface;
+    queue = own.queue;
+    stores = own.machine.stores.items;
+  };
+  trip = option_map (λ verdict. record {
+    visits = own.visits.items;
+    verdict = verdict;
+    target = own.target;
+    frame = bytes_in own.machine.frame;
+  }) own.verdict;
 }
 
-abbrev pub HasFrame : Inside → Type 0
-HasFrame own = 15872 ≤ vec_capacity own.frame
+-- one of eight interfaces, and room for the visits of ten members
+pub record HasRoom (own : Inside) : Type 0 where
+  pub interface : own.interface < 8
+  pub visits : 10 ≤ vec_capacity own.visits

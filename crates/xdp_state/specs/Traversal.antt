@@ -1,47 +1,129 @@
 -- A packet's way through the members of its interface (chain calls: libxdp's dispatcher).
-use Rattle.std.specs.Prelude.{ℕ, List, [], ◌∷◌, Option, Some, None, if◌then◌else◌}
-use Rattle.net_headers.specs.Headers.{headers_of}
+use Rattle.std.specs.Prelude.{ℕ, ◌+◌, List, [], ◌∷◌, Option, Some, None, if◌then◌else◌}
 use Rattle.std.specs.Option.{option_map_or}
+use Rattle.bpf_machine.specs.Buffer.{filled, bytes_in}
+use Rattle.bpf_machine.specs.Outcome.{Outcome, outcome_of}
+use Rattle.bpf_machine.specs.State.{Packet}
+use Rattle.bpf_machine.specs.declared.ending.Cause.TheVariants.{Exit, Fault}
+use Rattle.bpf_machine.specs.declared.ending.RunEnd.{RunEnd}
+use Rattle.bpf_machine.specs.declared.environment.Env.{Env}
+use Rattle.chain_order.specs.declared.member.Kind.{Kind}
+use Rattle.chain_order.specs.declared.member.Kind.TheVariants as kind
+use Rattle.chain_order.specs.declared.member.Member.{Member}
 use Rattle.filter_rules.specs.Verdict.{verdict}
 use Rattle.filter_rules.specs.declared.rule.RuleRow.{RuleRow}
 use Rattle.filter_rules.specs.declared.verdict.FilterEnd.{FilterEnd}
 use Rattle.filter_rules.specs.declared.verdict.FilterEnd.TheVariants.{Hit, Miss, Cut}
+use Rattle.net_headers.specs.Headers.{headers_of}
+use Rattle.object_load.specs.declared.program.Program.{Program}
 use Rattle.xio.specs.Action.{has_action}
 use Rattle.xio.specs.declared.action.Action.{Action}
-use Rattle.xio.specs.declared.action.Action.TheVariants.{Aborted, Pass}
+use Rattle.xio.specs.declared.action.Action.TheVariants.{Aborted, Drop, Pass, Tx, Redirect}
 use Rattle.xdp_state.specs.Book.{Book}
-use Rattle.xdp_state.specs.Members.{members_of}
-use Rattle.xdp_state.specs.declared.attachment.Attachment.{Attachment}
-use Rattle.xdp_state.specs.declared.attachment.Kind.{Kind}
-use Rattle.xdp_state.specs.declared.attachment.Kind.TheVariants.{Filter}
+use Rattle.xdp_state.specs.Handed.{Handed}
+use Rattle.xdp_state.specs.Library.{program_at}
+use Rattle.xdp_state.specs.Members.{chain_on}
+use Rattle.xdp_state.specs.Standing.{Standing}
+use Rattle.xdp_state.specs.Stores.{MemberMaps, maps_of, with_maps, prepared}
+use Rattle.xdp_state.specs.declared.library.Library.{Library}
 use Rattle.xdp_state.specs.declared.traversal.Traversal.{Traversal}
 use Rattle.xdp_state.specs.declared.traversal.Visit.{Visit}
 
--- a filter sends nothing on (target 0); a frame that it can't read is XDP_ABORTED
-abbrev pub visit_of : ℕ → FilterEnd → Visit
-visit_of member (Hit rule action) = record { number = member; action = action; rule = Some rule; target = 0 }
-visit_of member (Miss action) = record { number = member; action = action; rule = None; target = 0 }
-visit_of member Cut = record { number = member; action = Aborted; rule = None; target = 0 }
+-- what stays the same while a packet goes its way: the filter's rows, the programs, and what a program is told
+pub record Setting : Type 0 where
+  pub rows : List RuleRow
+  pub library : Library
+  pub env : Env
 
-abbrev pub visit_as : List RuleRow → ℕ → List ℕ → Kind → Visit
-visit_as rows member frame (Filter policy features) = visit_of member (verdict rows (headers_of frame) policy features)
+abbrev pub setting_of : List RuleRow → Library → Env → Setting
+setting_of rows library env = record { rows = rows; library = library; env = env }
 
-abbrev pub visit : List RuleRow → List ℕ → Attachment → Visit
-visit rows frame member = visit_as rows member.number frame member.kind
+-- what goes from member to member: the packet in its buffer, and the processor's maps
+pub record Course : Type 0 where
+  pub packet : Packet
+  pub stores : List MemberMaps
 
--- The members are visited in order. Where a member's mask has the action of its visit the next one is visited; otherwise
--- this visit decides.
-abbrev pub visits_of : List RuleRow → List ℕ → List Attachment → List Visit
-visits_of rows frame [] = []
-visits_of rows frame (m ∷ ms) =
-    visit rows frame m
-    ∷ (if has_action m.mask (visit rows frame m).action then visits_of rows frame ms else [])
+abbrev pub course_of : Packet → List MemberMaps → Course
+course_of packet stores = record { packet = packet; stores = stores }
 
-abbrev pub deciding : List RuleRow → List ℕ → List Attachment → Option Visit
-deciding rows frame [] = None
-deciding rows frame (m ∷ ms) =
-    if has_action m.mask (visit rows frame m).action then deciding rows frame ms
-    else Some (visit rows frame m)
+-- a visit, and the course behind it
+pub record Passage : Type 0 where
+  pub visit : Visit
+  pub course : Course
+
+-- a visit has a target only where it redirects
+abbrev pub sent_to : Action → ℕ → ℕ
+sent_to Aborted target = 0
+sent_to Drop target = 0
+sent_to Pass target = 0
+sent_to Tx target = 0
+sent_to Redirect target = target
+
+-- a program that ended so
+abbrev pub run_visit : ℕ → RunEnd → Visit
+run_visit number end = record {
+  number = number;
+  action = end.action;
+  cause = end.cause;
+  target = sent_to end.action end.target;
+  rule = None;
+}
+
+-- a program that isn't there
+abbrev pub lost_visit : ℕ → Visit
+lost_visit number = record { number = number; action = Aborted; cause = Fault; target = 0; rule = None }
+
+-- a filter, whose frame may end in a header that is read
+abbrev pub filter_visit : ℕ → FilterEnd → Visit
+filter_visit number (Hit rule action) = record { number = number; action = action; cause = Exit; target = 0; rule = Some rule }
+filter_visit number (Miss action) = record { number = number; action = action; cause = Exit; target = 0; rule = None }
+filter_visit number Cut = record { number = number; action = Aborted; cause = Exit; target = 0; rule = None }
+
+-- a program writes to the packet and to its own maps
+abbrev pub run_passage : ℕ → Course → Outcome → Passage
+run_passage number course outcome = record {
+  visit = run_visit number outcome.answer;
+  course = record { packet = outcome.packet; stores = with_maps course.stores number outcome.maps };
+}
+
+abbrev pub program_passage : Setting → Course → ℕ → Option Program → Passage
+program_passage setting course number None = record { visit = lost_visit number; course = course }
+program_passage setting course number (Some program) =
+    run_passage number course (outcome_of program.code.insns setting.env (maps_of course.stores number) course.packet)
+
+-- a member by its kind; a filter changes nothing
+abbrev pub passage_as : Setting → Course → ℕ → Kind → Passage
+passage_as setting course number (kind.Program program) =
+    program_passage setting course number (program_at setting.library program)
+passage_as setting course number (kind.Filter policy features) = record {
+  visit = filter_visit number (verdict setting.rows (headers_of (bytes_in course.packet)) policy features);
+  course = course;
+}
+
+unfoldable pub passage : Setting → Course → Member → Passage
+passage setting course member = passage_as setting course member.number member.kind
+
+-- the visits in order, the one that decided, if one did, and what is left
+pub record Way : Type 0 where
+  pub visits : List Visit
+  pub last : Option Visit
+  pub course : Course
+
+abbrev pub decided : Passage → Way
+decided here = record { visits = here.visit ∷ []; last = Some here.visit; course = here.course }
+
+abbrev pub with_visit : Visit → Way → Way
+with_visit visit way = record way { visits = visit ∷ way.visits }
+
+-- Where a member's mask has the action of its visit the next one is visited; otherwise this visit decides.
+abbrev pub way_behind : ℕ → Passage → (Course → Way) → Way
+way_behind mask here next = if has_action mask here.visit.action then with_visit here.visit (next here.course) else decided here
+
+-- the members are visited in order
+unfoldable pub way_from : Setting → Course → List Member → Way
+way_from setting course [] = record { visits = []; last = None; course = course }
+way_from setting course (member ∷ members) =
+    way_behind member.mask (passage setting course member) (λ course. way_from setting course members)
 
 -- the action and the target of the visit that decides; where none does XDP_PASS, with target 0
 abbrev pub verdict_of : Option Visit → Action
@@ -50,11 +132,34 @@ verdict_of last = option_map_or (λ v. v.action) last Pass
 abbrev pub target_of : Option Visit → ℕ
 target_of last = option_map_or (λ v. v.target) last 0
 
--- the way of a frame that comes in on an interface
-abbrev pub traversal : Book → ℕ → List ℕ → Traversal
-traversal book interface frame = record {
-  visits = visits_of book.rows frame (members_of book.members interface);
-  verdict = verdict_of (deciding book.rows frame (members_of book.members interface));
-  target = target_of (deciding book.rows frame (members_of book.members interface));
-  frame = frame;
+abbrev pub traversal_of : Way → Traversal
+traversal_of way = record {
+  visits = way.visits;
+  verdict = verdict_of way.last;
+  target = target_of way.last;
+  frame = bytes_in way.course.packet;
 }
+
+-- what programs are told of a packet
+abbrev pub env_of : Standing → Handed → Env
+env_of standing packet = record {
+  timestamp = packet.timestamp;
+  processor = standing.processor;
+  ifindex = standing.interface + 1;
+  queue = standing.queue;
+}
+
+-- the way of a packet that comes in where a processor stands
+unfoldable pub way_of : Library → Book → Standing → Handed → Way
+way_of library book standing packet =
+    way_from (setting_of book.rows library (env_of standing packet)) (course_of (filled packet.frame) standing.stores)
+    (chain_on book.members standing.interface)
+
+-- with the maps of the members that there are now
+abbrev pub standing_for : Library → Book → Standing → Standing
+standing_for library book standing =
+    record standing { stores = prepared library (chain_on book.members standing.interface) standing.stores }
+
+-- behind a packet that went so
+abbrev pub standing_behind : Standing → Way → Standing
+standing_behind standing way = record standing { stores = way.course.stores }

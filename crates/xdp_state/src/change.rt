@@ -1,4 +1,5 @@
-use crate::attachment::{Kind, Mode};
+use crate::mode::Mode;
+use chain_order::Kind;
 use filter_rules::RuleKey;
 
 /// What one publication changes; numbers only.
@@ -17,6 +18,10 @@ pub enum Change {
         interface: u32,
         number: u32,
         clear_rules: bool,
+    },
+    /// All members of the interface leave.
+    DetachAll {
+        interface: u32,
     },
     /// The row of the key gets the flags; where there is none it is made.
     SetRule {

@@ -1,10 +1,20 @@
-use crate::attachment::Mode;
+use crate::mode::Mode;
 use filter_rules::{Policy, RuleKey};
 use lists::Bytes;
 
 /// A command of the script.
 #[derive(Debug, Drop)]
 pub enum Command {
+    LoaderLoad(LoadWords),
+    /// Takes the member of this id off, or all members.
+    LoaderUnload {
+        interface: Bytes,
+        id: Option<u32>,
+    },
+    /// Shows one interface, or all.
+    LoaderStatus {
+        interface: Option<Bytes>,
+    },
     FilterLoad {
         interface: Bytes,
         mode: Mode,
@@ -23,4 +33,17 @@ pub enum Command {
         remove: bool,
     },
     FilterStatus,
+}
+
+/// What a load asks for: the first program, in the object of this number, that has the name and whose section has the
+/// other, each where it is given. Without a priority or a mask those of its run configuration hold.
+#[derive(Debug, Drop)]
+pub struct LoadWords {
+    pub interface: Bytes,
+    pub object: u32,
+    pub name: Option<Bytes>,
+    pub section: Option<Bytes>,
+    pub mode: Mode,
+    pub priority: Option<u32>,
+    pub mask: Option<u8>,
 }

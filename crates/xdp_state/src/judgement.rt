@@ -1,10 +1,23 @@
 use crate::change::Change;
+use object_load::LoadRefusal;
 
 /// Why a command is refused.
 #[derive(Clone, Copy, Debug, PartialEq, Eq)]
 pub enum Reason {
     /// The interface isn't declared.
     NoInterface,
+    /// The object gives no programs.
+    BadObject(LoadRefusal),
+    /// No program of the object has the name and the section.
+    NoSuchProgram,
+    /// The interface has members, which were attached with the other mode.
+    ModeDiffers,
+    /// The interface has ten members.
+    ChainFull,
+    /// The interface has no member.
+    NothingLoaded,
+    /// No member of the interface has the id.
+    NoSuchId,
     /// The interface has a filter already.
     FilterThere,
     /// The interface has no filter; of a rule, that no interface has one.

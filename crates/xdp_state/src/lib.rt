@@ -2,14 +2,20 @@
 #![tactic(auto)]
 
 mod answer;
-mod attachment;
 mod carried;
 mod change;
 mod choices;
 mod command;
+mod filters;
 mod hits;
+mod hook;
 mod interface;
 mod judgement;
+mod library;
+mod machine;
+mod member_store;
+mod mode;
+mod names;
 mod own;
 mod packet;
 mod plan;
@@ -19,14 +25,16 @@ mod tally;
 mod traversal;
 
 pub use answer::judge;
-pub use attachment::{Attachment, Kind, Mode};
 pub use carried::{Carried, CarriedList};
+pub use chain_order::{Chain, Kind, Member};
 pub use change::Change;
 pub use choices::{Choices, CountList, NeedsList};
-pub use command::Command;
+pub use command::{Command, LoadWords};
 pub use hits::{HitList, HitRow};
 pub use interface::{Interface, InterfaceList};
 pub use judgement::{Judgement, Reason};
+pub use library::{Library, Loaded, ObjectList, ObjectRow};
+pub use mode::Mode;
 pub use own::{Own, traverse};
 pub use packet::{HandIn, HandInList, Packet};
 pub use plan::{Plan, PlanPhase};

@@ -1,9 +1,11 @@
-ghost use Rattle.std.specs.Prelude.{◌≡◌, vec_len, None, Some, IsSome, IfSome, IfOk, OnOk, length};
-ghost use Rattle.xdp_state.specs.Members.{members_of};
+ghost use Rattle.std.specs.Prelude.{◌≡◌, ◌<◌, [], None, Some, IsSome, IfSome, IfOk, OnOk, OnErr};
+ghost use Rattle.xdp_state.specs.Library.{IsSound};
 ghost use Rattle.xdp_state.specs.Own.{IsPrepared};
+ghost use Rattle.xdp_state.specs.Traversal.{standing_for};
 
-use crate::attachment::Attachment;
-use crate::state::State;
+use crate::library::Library;
+use crate::machine::Machine;
+use crate::state::{MEMBERS, State};
 use crate::traversal::{Traversal, Visit};
 use lists::{Bytes, List};
 use std::alloc::Global;
@@ -14,53 +16,64 @@ mod way;
 
 pub use way::traverse;
 
-/// The longest frame that comes in.
-pub const FRAME: usize = 15_872;
-
-/// What a processor keeps of its own: its interface, and the way of its last packet.
+/// What a processor keeps of its own: the queue of an interface that it serves, the maps of each member there, one frame
+/// for all, and the way of its last packet.
 #[derive(Debug, Drop)]
 pub struct Own {
+    processor: u32,
     interface: u32,
+    queue: u32,
+    machine: Machine,
     visits: Vec<Visit>,
-    frame: Vec<u8>,
     verdict: Option<Action>,
     target: u32,
 }
 
 impl Model for Own {
     ghost use Rattle.xdp_state.specs.Carrier.{Carrier};
-    ghost use Rattle.xdp_state.specs.OwnView.{view_of, HasFrame};
+    ghost use Rattle.xdp_state.specs.OwnView.{view_of, HasRoom};
 
     ghost Value = { Carrier };
 
     ghost view = { view_of };
 
-    ghost invariant = { HasFrame };
+    ghost invariant = { HasRoom };
 }
 
 impl Own {
-    /// What a processor of this interface starts with.
-    pub fn new(alloc: Global, interface: u32) -> Result<Self, OutOfMemory>
-        ensures on { IfOk result (λ own. own.interface ≡ interface) }
-        ensures idle { IfOk result (λ own. own.trip ≡ None) }
+    /// What the processor of this number, of a queue of this interface, starts with.
+    pub fn new(
+        alloc: Global,
+        processor: u32,
+        interface: u32,
+        queue: u32,
+    ) -> Result<Self, OutOfMemory>
+        requires { interface < 8 }
+        ensures { IfOk result (λ own. own ≡ record {
+          standing = record { processor = processor; interface = interface; queue = queue; stores = [] };
+          trip = None;
+        }) }
     {
         Ok(Own {
+            processor,
             interface,
-            visits: Vec::new(alloc),
-            frame: Vec::with_capacity(alloc, FRAME)?,
+            queue,
+            machine: Machine::new(alloc)?,
+            visits: Vec::with_capacity(alloc, MEMBERS as usize)?,
             verdict: None,
             target: 0,
         })
     }
 
-    /// Takes the room of a visit of each member that the interface has now.
-    pub fn prepare(&mut self, state: &State) -> Result<(), OutOfMemory>
-        ensures ready { OnOk result (IsPrepared self.new state.now) }
-        ensures same { self.new ≡ record self.old { room = self.new.room } }
+    /// Makes the maps of the members that are new on the interface, and drops those of members that have left. Where
+    /// nothing changed it does nothing.
+    pub fn prepare(&mut self, state: &State, library: &Library) -> Result<(), OutOfMemory>
+        requires { IsSound library.now }
+        ensures ok { OnOk result (self.new ≡ record self.old { standing = standing_for library.now state.now self.old.standing }) }
+        ensures ready { OnOk result (IsPrepared library.now self.new state.now) }
+        ensures err { OnErr result (self.new ≡ self.old) }
     {
-        let members = members_on(state.members(), self.interface);
-        self.visits.reserve(members)?;
-        Ok(())
+        self.machine.prepare(library, state.chain(self.interface))
     }
 
     /// The verdict on the last packet.
@@ -92,7 +105,7 @@ impl Own {
         requires { IsSome self.now.trip }
         ensures { IfSome self.now.trip (λ trip. result.now ≡ trip.frame) }
     {
-        self.frame.as_slice()
+        self.machine.frame.bytes()
     }
 
     /// The way of the last packet.
@@ -105,7 +118,7 @@ impl Own {
             visits.push(*visit)?;
         }
         let mut frame = Bytes::new(alloc);
-        frame.append(&self.frame)?;
+        frame.append(self.machine.frame.bytes())?;
         Ok(Traversal {
             visits,
             verdict: self.verdict(),
@@ -113,14 +126,4 @@ impl Own {
             frame,
         })
     }
-}
-
-/// How many members the interface has.
-fn members_on(members: &[Attachment], interface: u32) -> usize
-    ensures { result ≡ length (members_of members.now interface) }
-{
-    members
-        .iter()
-        .filter(|member| member.interface == interface)
-        .count()
 }

@@ -1,11 +1,15 @@
-ghost use Rattle.std.specs.Prelude.{◌≡◌, ◌+◌, ◌<◌, ◌||◌, ◌==◌, not, true, nat_lt, [], ◌∷◌, ◌++◌, length, vec_capacity, IfOk, if◌then◌else◌};
-ghost use Rattle.std.specs.List.{list_all};
-ghost use Rattle.xdp_state.specs.Book.{has_place, has_own_flags};
-ghost use Rattle.xdp_state.specs.Members.{members_of, members_without};
+ghost use Rattle.std.specs.Prelude.{◌≡◌, ◌+◌, ◌<◌, ◌||◌, true, nat_lt, List, [], ◌∷◌, ◌++◌, length, replicate, IfOk, if◌then◌else◌};
+ghost use Rattle.chain_order.specs.Chain.{IsChain, without};
+ghost use Rattle.chain_order.specs.declared.member.Member.{Member};
 ghost use Rattle.filter_rules.specs.Rules.{has_row, set_rule, clear_rule};
+ghost use Rattle.xdp_state.specs.Book.{has_place, has_own_flags};
+ghost use Rattle.xdp_state.specs.Members.{chain_on, members_off, members_without, mode_on};
 
-use crate::attachment::{Attachment, Mode};
 use crate::change::Change;
+use crate::filters::{has_filter, is_filter};
+use crate::hook::Hook;
+use crate::mode::{Mode, differs};
+use chain_order::{Chain, Kind, Member};
 use filter_rules::{ROWS, RuleKey, Rules};
 use std::alloc::Global;
 use std::marker::Model;
@@ -17,28 +21,28 @@ mod copy;
 pub const INTERFACES: u32 = 8;
 
 /// How many members a chain may have.
-pub const MEMBERS: usize = 10;
+pub const MEMBERS: u32 = 10;
 
 /// How many changes may be made.
 pub const CHANGES: u32 = 65_536;
 
-/// What the changes so far have made: the attached members, the filter's rows and the number of publications.
+/// What the changes so far have made: the members of each interface, the filter's rows and the number of publications.
 #[derive(Debug, Drop)]
 pub struct State {
-    members: Vec<Attachment>,
+    hooks: Vec<Hook>,
     rules: Rules,
     count: u32,
 }
 
 impl Model for State {
     ghost use Rattle.xdp_state.specs.Book.{Book};
-    ghost use Rattle.xdp_state.specs.State.{view_of, HasRoom};
+    ghost use Rattle.xdp_state.specs.State.{view_of, IsWhole};
 
     ghost Value = { Book };
 
     ghost view = { view_of };
 
-    ghost invariant = { HasRoom };
+    ghost invariant = { IsWhole };
 }
 
 impl State {
@@ -49,7 +53,7 @@ impl State {
         ensures { IfOk result (λ state. state ≡ empty) }
     {
         Ok(State {
-            members: Vec::with_capacity(alloc, INTERFACES as usize * MEMBERS)?,
+            hooks: no_hooks(alloc)?,
             rules: Rules::new(alloc)?,
             count: 0,
         })
@@ -62,14 +66,24 @@ impl State {
         self.count
     }
 
-    /// All members in order of attaching.
-    pub fn members(&self) -> &[Attachment]
-        ensures { result.now ≡ self.now.members }
+    /// The members of an interface in the order in which they run.
+    pub fn chain(&self, interface: u32) -> &Chain
+        requires { interface < 8 }
+        ensures { result.now ≡ chain_on self.now.members interface }
     {
-        self.members.as_slice()
+        &self.hooks[interface as usize].chain
     }
 
-    /// The rows that all filters share.
+    /// The mode of an interface's members, where it has some.
+    pub fn mode(&self, interface: u32) -> Option<Mode>
+        requires { interface < 8 }
+        ensures { result ≡ mode_on self.now.members interface }
+    {
+        let hook = &self.hooks[interface as usize];
+        (hook.chain.len() > 0).then_some(hook.mode)
+    }
+
+    /// The rules that all filters share.
     pub fn rules(&self) -> &Rules
         ensures { result.now ≡ self.now.rows }
     {
@@ -98,49 +112,69 @@ impl State {
                 rank,
                 mask,
                 mode,
-            } => self.attach(Attachment {
-                interface,
-                kind,
-                priority,
-                rank,
-                mask,
-                mode,
-                number: self.count + 1,
-            }),
+            } => {
+                let number = self.count + 1;
+                let member = Member {
+                    priority,
+                    rank,
+                    number,
+                    mask,
+                    kind,
+                };
+                self.attach(interface, mode, member);
+            }
             Change::Detach {
                 interface,
                 number,
                 clear_rules,
             } => self.detach(interface, number, clear_rules),
+            Change::DetachAll { interface } => self.detach_all(interface),
             Change::SetRule { key, flags } => self.set_rule(key, flags),
             Change::ClearRule { key, flags } => self.clear_rule(key, flags),
         }
     }
 
-    /// Puts a member behind the others.
-    fn attach(&mut self, member: Attachment)
-        requires known { member.interface < 8 }
-        requires place { has_place (members_of self.old.members member.interface) member.mode ≡ true }
+    /// Puts a member into the chain of its interface.
+    fn attach(&mut self, interface: u32, mode: Mode, member: Member)
+        requires known { interface < 8 }
+        requires place { has_place self.old.members interface member.kind mode ≡ true }
+        requires number { member.number ≡ self.old.count + 1 }
         requires count { self.old.count < 65536 }
-        ensures { self.new ≡ record self.old { members = self.old.members ++ member ∷ []; count = self.old.count + 1 } }
+        ensures { self.new ≡ record self.old {
+          members = self.old.members ++ record { interface = interface; mode = mode; member = member } ∷ [];
+          count = self.old.count + 1;
+        } }
     {
-        self.members.push_reserved(member);
+        let hook = &mut self.hooks[interface as usize];
+        let _ = hook.chain.insert(member);
+        hook.mode = mode;
         self.count += 1;
     }
 
     /// Takes a member off its interface, and with `clear_rules` all rows.
     fn detach(&mut self, interface: u32, number: u32, clear_rules: bool)
-        requires { self.old.count < 65536 }
+        requires known { interface < 8 }
+        requires count { self.old.count < 65536 }
         ensures { self.new ≡ record {
           members = members_without self.old.members interface number;
           rows = if clear_rules then [] else self.old.rows;
           count = self.old.count + 1;
         } }
     {
-        take_off(&mut self.members, interface, number);
+        take_off(&mut self.hooks[interface as usize].chain, number);
         if clear_rules {
             self.rules.clear();
         }
+        self.count += 1;
+    }
+
+    /// Takes all members off their interface.
+    fn detach_all(&mut self, interface: u32)
+        requires known { interface < 8 }
+        requires count { self.old.count < 65536 }
+        ensures { self.new ≡ record self.old { members = members_off self.old.members interface; count = self.old.count + 1 } }
+    {
+        self.hooks[interface as usize] = Hook::new();
         self.count += 1;
     }
 
@@ -171,15 +205,29 @@ impl State {
         match *change {
             Change::Attach {
                 interface,
+                kind,
                 mode,
                 ..
-            } => interface < INTERFACES && has_place(&self.members, interface, mode),
-            Change::Detach { interface, .. } => interface < INTERFACES,
+            } => interface < INTERFACES && self.has_place(interface, kind, mode),
+            Change::Detach { interface, .. } | Change::DetachAll { interface } => {
+                interface < INTERFACES
+            }
             Change::SetRule { key, flags } => {
                 has_own_flags(key, flags) && (self.rules.len() < ROWS || self.rules.contains(key))
             }
             Change::ClearRule { key, flags } => has_own_flags(key, flags),
         }
+    }
+
+    /// Whether the interface has a place for one more member of this kind and mode.
+    fn has_place(&self, interface: u32, kind: Kind, mode: Mode) -> bool
+        requires { interface < 8 }
+        ensures { result ≡ has_place self.now.members interface kind mode }
+    {
+        let chain = self.chain(interface);
+        chain.len() < MEMBERS
+            && !differs(self.mode(interface), mode)
+            && !(is_filter(kind) && has_filter(chain))
     }
 }
 
@@ -190,24 +238,21 @@ fn has_own_flags(key: RuleKey, flags: u8) -> bool
     flags != 0 && flags <= key.kind.all_flags()
 }
 
-/// Drops the member of this interface and number.
-fn take_off(members: &mut Vec<Attachment>, interface: u32, number: u32)
-    ensures members { members.new.items ≡ members_without members.old.items interface number }
-    ensures room { vec_capacity members.new ≡ vec_capacity members.old }
+/// Hooks without members.
+fn no_hooks(alloc: Global) -> Result<Vec<Hook>, OutOfMemory>
+    ensures { IfOk result (λ hooks. hooks.items ≡ replicate 8 (record { chain = []; mode = Mode.Native })) }
 {
-    members.retain(|member| !(member.interface == interface && member.number == number));
+    let mut hooks = Vec::with_capacity(alloc, INTERFACES as usize)?;
+    for _ in 0..INTERFACES {
+        hooks.push(Hook::new())?;
+    }
+    Ok(hooks)
 }
 
-/// Whether the interface has a place for one more member of this mode: each member is a filter, of which a chain has one.
-fn has_place(members: &[Attachment], interface: u32, mode: Mode) -> bool
-    ensures { result ≡ has_place (members_of members.now interface) mode }
+/// Takes the member of a number out, where there is one.
+fn take_off(chain: &mut Chain, number: u32)
+    ensures members { chain.new ≡ without number chain.old }
+    ensures chain { (members : List Member) → IsChain members chain.old → IsChain (without number members) chain.new }
 {
-    is_free(members, interface)
-}
-
-/// Whether no member is on the interface.
-fn is_free(members: &[Attachment], interface: u32) -> bool
-    ensures { result ≡ list_all (λ m. not (m.interface == interface)) members.now }
-{
-    members.iter().all(|member| member.interface != interface)
+    let _ = chain.remove(number);
 }

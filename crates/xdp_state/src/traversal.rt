@@ -1,13 +1,16 @@
+use bpf_machine::Cause;
 use lists::{Bytes, List};
 use xio::Action;
 
-/// What one member made of a packet, and the row that named the packet. The target is that of XDP_REDIRECT, else 0.
+/// What one member made of a packet: its action, why a program ended so, the target of XDP_REDIRECT, else 0, and the row
+/// of a filter that named the packet. A filter's cause is `Exit`.
 #[derive(Clone, Copy, Debug, PartialEq, Eq)]
 pub struct Visit {
     pub number: u32,
     pub action: Action,
-    pub rule: Option<u32>,
+    pub cause: Cause,
     pub target: u32,
+    pub rule: Option<u32>,
 }
 
 pub type VisitList = List<Visit>;

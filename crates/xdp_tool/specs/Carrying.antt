@@ -2,10 +2,12 @@
 use Rattle.std.specs.Prelude.{◌≡◌, ℕ, ◌+◌, zero, suc, List, [], ◌∷◌, ◌++◌, length, drop, ⊤}
 use Rattle.xdp_state.specs.Book.{after}
 use Rattle.xdp_state.specs.Legal.{AreLegalCounts}
-use Rattle.xdp_state.specs.Traversals.{Standing, carried_from, carried_in, standing_from, standings_in}
+use Rattle.xdp_state.specs.Standing.{Standing}
+use Rattle.xdp_state.specs.Traversals.{carried_from, carried_in, standing_from, standings_in}
 use Rattle.xdp_state.specs.Work.{needs_of}
 use Rattle.xdp_state.specs.declared.carried.Carried.{Carried}
 use Rattle.xdp_state.specs.declared.change.Change.{Change}
+use Rattle.xdp_state.specs.declared.library.Library.{Library}
 use Rattle.xdp_state.specs.declared.packet.HandIn.{HandIn}
 use Rattle.xdp_tool.specs.declared.carrier.Carrier.{Carrier}
 use Rattle.xdp_tool.specs.declared.processor.Processor.{Processor}
@@ -14,7 +16,7 @@ use Rattle.xdp_tool.specs.declared.processor.Processor.{Processor}
 abbrev pub AreIdle : List Processor → List Standing → Type 0
 AreIdle [] [] = ⊤
 AreIdle (processor ∷ more) (standing ∷ standings) =
-    (processor.own.interface ≡ standing.interface) × (processor.carried ≡ []) × AreIdle more standings
+    (processor.own.standing ≡ standing) × (processor.carried ≡ []) × AreIdle more standings
 AreIdle _ _ = ⊥
 
 pub record StandsAt (carrier : Carrier) (published : List Change) (standings : List Standing) : Type 0 where
@@ -29,44 +31,42 @@ AreDue low high (standing ∷ standings) (hs ∷ hand_ins) (counts ∷ others) =
 AreDue low high _ _ _ = ⊥
 
 -- each processor carried its packets with these counts
-pub record Carries (carrier : Carrier) (carried : List (List Carried)) (published : List Change) (standings : List Standing)
+pub record Carries (library : Library) (carrier : Carrier) (carried : List (List Carried)) (published : List Change) (standings : List Standing)
     (hand_ins : List (List HandIn)) (counts : List (List ℕ)) : Type 0 where
-  pub lists : carried ≡ carried_in published standings hand_ins counts
-  pub stands : StandsAt carrier published (standings_in published standings hand_ins counts)
+  pub lists : carried ≡ carried_in library published standings hand_ins counts
+  pub stands : StandsAt carrier published (standings_in library published standings hand_ins counts)
 
 -- the processors stand there, whatever they have carried of the phase
 abbrev pub AreStanding : List Processor → List Standing → Type 0
 AreStanding [] [] = ⊤
-AreStanding (processor ∷ more) (standing ∷ standings) = (processor.own.interface ≡ standing.interface) × AreStanding more standings
+AreStanding (processor ∷ more) (standing ∷ standings) = (processor.own.standing ≡ standing) × AreStanding more standings
 AreStanding _ _ = ⊥
 
 -- the first so many have handed over what they carried
 abbrev pub AreIdleTo : ℕ → List Processor → List Standing → Type 0
 AreIdleTo done [] [] = ⊤
 AreIdleTo zero (processor ∷ more) (standing ∷ standings) =
-    (processor.own.interface ≡ standing.interface) × AreIdleTo zero more standings
+    (processor.own.standing ≡ standing) × AreIdleTo zero more standings
 AreIdleTo (suc done) (processor ∷ more) (standing ∷ standings) =
-    (processor.own.interface ≡ standing.interface) × (processor.carried ≡ []) × AreIdleTo done more standings
+    (processor.own.standing ≡ standing) × (processor.carried ≡ []) × AreIdleTo done more standings
 AreIdleTo done _ _ = ⊥
 
 -- A processor has carried the front of these packets with these counts, from where it stood, and the counts of those that are
 -- left are at least the number.
-pub record IsUpTo (published : List Change) (standing : Standing) (hs : List HandIn) (counts : List ℕ) (now : ℕ)
+pub record IsUpTo (library : Library) (published : List Change) (standing : Standing) (hs : List HandIn) (counts : List ℕ) (now : ℕ)
     (processor : Processor) : Type 0 where
-  pub left : Standing
-  pub interface : processor.own.interface ≡ left.interface
-  pub carried : carried_from published standing hs counts ≡ processor.carried
-      ++ carried_from published left (drop (length processor.carried) hs) (drop (length processor.carried) counts)
-  pub stands : standing_from published standing hs counts
-      ≡ standing_from published left (drop (length processor.carried) hs) (drop (length processor.carried) counts)
+  pub carried : carried_from library published standing hs counts ≡ processor.carried
+      ++ carried_from library published processor.own.standing (drop (length processor.carried) hs) (drop (length processor.carried) counts)
+  pub stands : standing_from library published standing hs counts
+      ≡ standing_from library published processor.own.standing (drop (length processor.carried) hs) (drop (length processor.carried) counts)
   pub legal : AreLegalCounts now (length published) (needs_of (drop (length processor.carried) hs))
       (drop (length processor.carried) counts)
 
 -- by processor; the first so many are one number further
-abbrev pub AllUpTo : ℕ → List Change → ℕ → List Standing → List (List HandIn) → List (List ℕ) → List Processor → Type 0
-AllUpTo done published now [] [] [] [] = ⊤
-AllUpTo zero published now (s ∷ ss) (hs ∷ hss) (cs ∷ css) (p ∷ ps) =
-    IsUpTo published s hs cs now p × AllUpTo zero published now ss hss css ps
-AllUpTo (suc done) published now (s ∷ ss) (hs ∷ hss) (cs ∷ css) (p ∷ ps) =
-    IsUpTo published s hs cs (now + 1) p × AllUpTo done published now ss hss css ps
-AllUpTo done published now _ _ _ _ = ⊥
+abbrev pub AllUpTo : Library → ℕ → List Change → ℕ → List Standing → List (List HandIn) → List (List ℕ) → List Processor → Type 0
+AllUpTo library done published now [] [] [] [] = ⊤
+AllUpTo library zero published now (s ∷ ss) (hs ∷ hss) (cs ∷ css) (p ∷ ps) =
+    IsUpTo library published s hs cs now p × AllUpTo library zero published now ss hss css ps
+AllUpTo library (suc done) published now (s ∷ ss) (hs ∷ hss) (cs ∷ css) (p ∷ ps) =
+    IsUpTo library published s hs cs (now + 1) p × AllUpTo library done published now ss hss css ps
+AllUpTo library done published now _ _ _ _ = ⊥

@@ -1,6 +1,7 @@
-ghost use Rattle.std.specs.Prelude.{◌≡◌, ◌+◌, ◌<◌, List, [], ◌++◌, length, map, take, vec_len, IfOk, OnOk};
+ghost use Rattle.std.specs.Prelude.{◌≡◌, ◌+◌, ◌<◌, ◌^◌, All, List, [], ◌++◌, length, map, take, vec_len, IfOk, OnOk};
 ghost use Rattle.xdp_state.specs.Book.{AllTaken, after};
-ghost use Rattle.xdp_state.specs.Traversals.{Standing};
+ghost use Rattle.xdp_state.specs.Library.{IsSound};
+ghost use Rattle.xdp_state.specs.Standing.{Standing};
 ghost use Rattle.xdp_state.specs.declared.change.Change.{Change};
 ghost use Rattle.xdp_tool.specs.Carrying.{AllUpTo, AreDue, AreIdle, AreStanding, Carries, IsUpTo, StandsAt};
 ghost use Rattle.xdp_tool.specs.Traversed.{standings_of};
@@ -10,7 +11,7 @@ use crate::processor::Processor;
 use crate::queue::Queue;
 use lists::List;
 use std::alloc::Global;
-use xdp_state::{CarriedList, Change, HandIn, HandInList, NeedsList, State};
+use xdp_state::{CarriedList, Change, HandIn, HandInList, Library, NeedsList, State};
 use xio::OutOfMemory;
 
 /// Carries the packets of one phase after another, on one thread, with counts that it is given: a state goes once over the
@@ -24,6 +25,8 @@ pub struct Carrier {
 impl Carrier {
     /// Before the first phase, with a processor for each queue.
     pub fn new(alloc: Global, queues: &[Queue<'_>]) -> Result<Self, OutOfMemory>
+        requires queues { length queues.now < 2 ^ 32 }
+        requires interfaces { All (λ queue. queue.interface < 8) queues.now }
         ensures { IfOk result (λ carrier. StandsAt carrier [] (standings_of (map queue_of queues.now))) }
     {
         Ok(Carrier {
@@ -36,18 +39,20 @@ impl Carrier {
     pub fn carry(
         &mut self,
         alloc: Global,
+        library: &Library,
         changes: &[Change],
         hand_ins: &[HandInList],
         counts: &NeedsList,
     ) -> Result<List<CarriedList>, OutOfMemory>
+        requires { IsSound library.now }
         ensures { (before : List Change) (standings : List Standing) → StandsAt self.old before standings
             → AllTaken (before ++ changes.now) → AreDue (length before) (length (before ++ changes.now)) standings hand_ins.now counts.now
-            → IfOk result (λ carried. Carries self.new carried (before ++ changes.now) standings hand_ins.now counts.now) }
+            → IfOk result (λ carried. Carries library.now self.new carried (before ++ changes.now) standings hand_ins.now counts.now) }
     {
-        carry_due(alloc, &self.state, &mut self.processors, hand_ins, counts)?;
+        carry_due(alloc, &self.state, library, &mut self.processors, hand_ins, counts)?;
         for change in changes {
             self.state.absorb(change);
-            carry_due(alloc, &self.state, &mut self.processors, hand_ins, counts)?;
+            carry_due(alloc, &self.state, library, &mut self.processors, hand_ins, counts)?;
         }
         finish_all(alloc, &mut self.processors)
     }
@@ -55,11 +60,13 @@ impl Carrier {
 
 /// A processor for each queue.
 fn processors_of(alloc: Global, queues: &[Queue<'_>]) -> Result<Vec<Processor>, OutOfMemory>
+    requires queues { length queues.now < 2 ^ 32 }
+    requires interfaces { All (λ queue. queue.interface < 8) queues.now }
     ensures { IfOk result (λ processors. AreIdle processors.items (standings_of (map queue_of queues.now))) }
 {
     let mut processors = Vec::new(alloc);
-    for queue in queues {
-        processors.push(Processor::new(alloc, queue.interface)?)?;
+    for (number, queue) in queues.iter().enumerate() {
+        processors.push(Processor::new(alloc, number as u32, queue)?)?;
     }
     Ok(processors)
 }
@@ -68,16 +75,18 @@ fn processors_of(alloc: Global, queues: &[Queue<'_>]) -> Result<Vec<Processor>, 
 fn carry_due(
     alloc: Global,
     state: &State,
+    library: &Library,
     processors: &mut Vec<Processor>,
     hand_ins: &[HandInList],
     counts: &NeedsList,
 ) -> Result<(), OutOfMemory>
+    requires { IsSound library.now }
     ensures { (published : List Change) (standings : List Standing) → state.now ≡ after (take state.now.count published)
-        → AllUpTo 0 published state.now.count standings hand_ins.now counts.now processors.old.items
-        → OnOk result (AllUpTo 0 published (state.now.count + 1) standings hand_ins.now counts.now processors.new.items) }
+        → AllUpTo library.now 0 published state.now.count standings hand_ins.now counts.now processors.old.items
+        → OnOk result (AllUpTo library.now 0 published (state.now.count + 1) standings hand_ins.now counts.now processors.new.items) }
 {
     for place in 0..processors.len() {
-        carry_due_at(alloc, state, processors, place, hand_ins, counts)?;
+        carry_due_at(alloc, state, library, processors, place, hand_ins, counts)?;
     }
     Ok(())
 }
@@ -86,15 +95,17 @@ fn carry_due(
 fn carry_due_at(
     alloc: Global,
     state: &State,
+    library: &Library,
     processors: &mut Vec<Processor>,
     place: usize,
     hand_ins: &[HandInList],
     counts: &NeedsList,
 ) -> Result<(), OutOfMemory>
-    requires { place < vec_len processors.old }
+    requires place { place < vec_len processors.old }
+    requires sound { IsSound library.now }
     ensures due { (published : List Change) (standings : List Standing) → state.now ≡ after (take state.now.count published)
-        → AllUpTo place published state.now.count standings hand_ins.now counts.now processors.old.items
-        → OnOk result (AllUpTo (place + 1) published state.now.count standings hand_ins.now counts.now processors.new.items) }
+        → AllUpTo library.now place published state.now.count standings hand_ins.now counts.now processors.old.items
+        → OnOk result (AllUpTo library.now (place + 1) published state.now.count standings hand_ins.now counts.now processors.new.items) }
     ensures processors { vec_len processors.new ≡ vec_len processors.old }
 {
     let counts = counts.as_slice();
@@ -102,24 +113,26 @@ fn carry_due_at(
         return Ok(());
     }
     let (hand_ins, counts) = (hand_ins[place].as_slice(), counts[place].as_slice());
-    carry_due_on(alloc, state, &mut processors[place], hand_ins, counts)
+    carry_due_on(alloc, state, library, &mut processors[place], hand_ins, counts)
 }
 
 /// Carries the processor's next packets whose count is the state's.
 fn carry_due_on(
     alloc: Global,
     state: &State,
+    library: &Library,
     processor: &mut Processor,
     hand_ins: &[HandIn],
     counts: &[u32],
 ) -> Result<(), OutOfMemory>
+    requires { IsSound library.now }
     ensures { (published : List Change) (standing : Standing) → state.now ≡ after (take state.now.count published)
-        → IsUpTo published standing hand_ins.now counts.now state.now.count processor.old
-        → OnOk result (IsUpTo published standing hand_ins.now counts.now (state.now.count + 1) processor.new) }
+        → IsUpTo library.now published standing hand_ins.now counts.now state.now.count processor.old
+        → OnOk result (IsUpTo library.now published standing hand_ins.now counts.now (state.now.count + 1) processor.new) }
 {
     let mut place = processor.carried.len() as usize;
     while place < hand_ins.len() && place < counts.len() && counts[place] == state.count() {
-        processor.carry(alloc, state, &hand_ins[place].packet)?;
+        processor.carry(alloc, state, library, &hand_ins[place].packet)?;
         place += 1;
     }
     Ok(())

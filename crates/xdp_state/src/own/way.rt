@@ -1,33 +1,47 @@
-ghost use Rattle.std.specs.Prelude.{◌≡◌, ◌≤◌, length, vec_capacity, Some, []};
-ghost use Rattle.xdp_state.specs.Members.{members_of};
+ghost use Rattle.std.specs.Prelude.{◌≡◌, ◌≤◌, length, vec_capacity, List, Some, [], true};
+ghost use Rattle.chain_order.specs.declared.member.Member.{Member};
+ghost use Rattle.filter_rules.specs.Verdict.{verdict};
+ghost use Rattle.filter_rules.specs.declared.rule.RuleRow.{RuleRow};
+ghost use Rattle.net_headers.specs.Headers.{headers_of};
+ghost use Rattle.xdp_state.specs.Library.{IsSound, program_at};
 ghost use Rattle.xdp_state.specs.Own.{IsPrepared};
-ghost use Rattle.xdp_state.specs.Traversal.{visit, visits_of, deciding, traversal};
+ghost use Rattle.xdp_state.specs.Stores.{AreReady, is_ready, is_ready_as, entry_of};
+ghost use Rattle.xdp_state.specs.Traversal.{course_of, filter_visit, passage, program_passage, run_visit, sent_to, setting_of, standing_behind, traversal_of, way_from, way_of};
 
 use super::Own;
-use crate::attachment::{Attachment, Kind};
+use crate::library::Library;
+use crate::machine::Machine;
 use crate::packet::Packet;
 use crate::state::State;
 use crate::traversal::Visit;
-use filter_rules::{FilterEnd, Rules};
+use bpf_machine::{Cause, Env, RunEnd};
+use chain_order::{Chain, Kind, Member};
+use filter_rules::{FilterEnd, Policy, Rules};
 use net_headers::headers;
 use xio::Action;
 
 /// Takes a packet through its interface's chain; `Own::trip` tells the way.
-pub fn traverse(state: &State, own: &mut Own, packet: &Packet)
-    requires { IsPrepared own.old state.now }
-    ensures { own.new ≡ record own.old { trip = Some (traversal state.now own.old.interface packet.now.frame) } }
+pub fn traverse(state: &State, library: &Library, own: &mut Own, packet: &Packet)
+    requires sound { IsSound library.now }
+    requires prepared { IsPrepared library.now own.old state.now }
+    ensures standing { own.new.standing
+        ≡ standing_behind own.old.standing (way_of library.now state.now own.old.standing packet.now) }
+    ensures trip { own.new.trip ≡ Some (traversal_of (way_of library.now state.now own.old.standing packet.now)) }
 {
-    let frame = packet.frame.as_slice();
     own.visits.clear();
-    own.frame.clear();
-    let Ok(()) = own.frame.extend_from_slice(frame) else {
-        unreachable!()
+    own.machine.frame.fill(packet.frame.as_slice());
+    let env = Env {
+        timestamp: packet.timestamp,
+        processor: own.processor,
+        ifindex: own.interface + 1,
+        queue: own.queue,
     };
     let last = visit_all(
         state.rules(),
-        frame,
-        state.members(),
-        own.interface,
+        library,
+        &env,
+        state.chain(own.interface),
+        &mut own.machine,
         &mut own.visits,
     );
     let (verdict, target) = match last {
@@ -38,39 +52,115 @@ pub fn traverse(state: &State, own: &mut Own, packet: &Packet)
     own.target = target;
 }
 
-/// Visits the members of the interface in order, and answers the visit that decides.
+/// Visits the members in order, and answers the visit that decides.
 fn visit_all(
     rules: &Rules,
-    frame: &[u8],
-    members: &[Attachment],
-    interface: u32,
+    library: &Library,
+    env: &Env,
+    chain: &Chain,
+    machine: &mut Machine,
     visits: &mut Vec<Visit>,
 ) -> Option<Visit>
-    requires least { 14 ≤ length frame.now }
+    requires sound { IsSound library.now }
+    requires ready { AreReady library.now machine.old.stores.items chain.now }
     requires none { visits.old.items ≡ [] }
-    requires room { length (members_of members.now interface) ≤ vec_capacity visits.old }
-    ensures visits { visits.new.items ≡ visits_of rules.now frame.now (members_of members.now interface) }
-    ensures last { result ≡ deciding rules.now frame.now (members_of members.now interface) }
+    requires room { 10 ≤ vec_capacity visits.old }
+    ensures way { way_from (setting_of rules.now library.now env.now) (course_of machine.old.frame machine.old.stores.items) chain.now
+        ≡ record { visits = visits.new.items; last = result; course = course_of machine.new.frame machine.new.stores.items } }
     ensures room { vec_capacity visits.new ≡ vec_capacity visits.old }
 {
-    for member in members {
-        if member.interface == interface {
-            let visit = visit(rules, frame, member);
-            visits.push_reserved(visit);
-            if !visit.action.is_in(member.mask) {
-                return Some(visit);
-            }
+    for place in 0..chain.len() {
+        let member = chain.at(place);
+        let visit = visit(rules, library, env, machine, member);
+        visits.push_reserved(visit);
+        if !visit.action.is_in(member.mask) {
+            return Some(visit);
         }
     }
     None
 }
 
-/// What one member makes of the frame.
-fn visit(rules: &Rules, frame: &[u8], member: &Attachment) -> Visit
-    requires { 14 ≤ length frame.now }
-    ensures { result ≡ visit rules.now frame.now member.now }
+/// What one member makes of the packet.
+#[tactic(auto, unfolding(crate::specs::Traversal::passage))]
+fn visit(
+    rules: &Rules,
+    library: &Library,
+    env: &Env,
+    machine: &mut Machine,
+    member: &Member,
+) -> Visit
+    requires sound { IsSound library.now }
+    requires ready { is_ready library.now machine.old.stores.items member.now ≡ true }
+    ensures passage { passage (setting_of rules.now library.now env.now) (course_of machine.old.frame machine.old.stores.items) member.now
+        ≡ record { visit = result; course = course_of machine.new.frame machine.new.stores.items } }
+    ensures ready { (chain : List Member) → AreReady library.now machine.old.stores.items chain
+        → AreReady library.now machine.new.stores.items chain }
 {
-    let Kind::Filter { policy, features } = member.kind;
+    match member.kind {
+        Kind::Program(program) => visit_program(library, env, machine, member.number, program),
+        Kind::Filter { policy, features } => {
+            visit_filter(
+                rules,
+                machine.frame.bytes(),
+                member.number,
+                policy,
+                features,
+            )
+        }
+    }
+}
+
+/// Runs a member's program on the packet; without the program the packet is aborted.
+fn visit_program(
+    library: &Library,
+    env: &Env,
+    machine: &mut Machine,
+    number: u32,
+    program: u32,
+) -> Visit
+    requires sound { IsSound library.now }
+    requires ready { is_ready_as (program_at library.now program) (entry_of machine.old.stores.items number) ≡ true }
+    ensures passage { (rows : List RuleRow) →
+        program_passage (setting_of rows library.now env.now) (course_of machine.old.frame machine.old.stores.items) number
+        (program_at library.now program)
+        ≡ record { visit = result; course = course_of machine.new.frame machine.new.stores.items } }
+    ensures ready { (chain : List Member) → AreReady library.now machine.old.stores.items chain
+        → AreReady library.now machine.new.stores.items chain }
+{
+    match library.program(program) {
+        Some(program) => end_visit(number, machine.run(number, &program.code, env)),
+        None => Visit {
+            number,
+            action: Action::Aborted,
+            cause: Cause::Fault,
+            target: 0,
+            rule: None,
+        },
+    }
+}
+
+/// The visit of a program that ended so. Only a redirect has a target.
+fn end_visit(number: u32, end: RunEnd) -> Visit
+    ensures { result ≡ run_visit number end }
+{
+    let target = match end.action {
+        Action::Redirect => end.target,
+        Action::Aborted | Action::Drop | Action::Pass | Action::Tx => 0,
+    };
+    Visit {
+        number,
+        action: end.action,
+        cause: end.cause,
+        target,
+        rule: None,
+    }
+}
+
+/// Asks a filter about a frame.
+fn visit_filter(rules: &Rules, frame: &[u8], number: u32, policy: Policy, features: u8) -> Visit
+    requires { 14 ≤ length frame.now }
+    ensures { result ≡ filter_visit number (verdict rules.now (headers_of frame.now) policy features) }
+{
     let Ok(headers) = headers(frame) else {
         unreachable!()
     };
@@ -80,9 +170,10 @@ fn visit(rules: &Rules, frame: &[u8], member: &Attachment) -> Visit
         FilterEnd::Cut => (Action::Aborted, None),
     };
     Visit {
-        number: member.number,
+        number,
         action,
-        rule,
+        cause: Cause::Exit,
         target: 0,
+        rule,
     }
 }

@@ -1,6 +1,8 @@
 ghost use Rattle.std.specs.Prelude.{◌≡◌, IfOk};
 
-use super::{INTERFACES, MEMBERS, State};
+use super::State;
+use crate::hook::Hook;
+use std::alloc::Global;
 use xio::OutOfMemory;
 
 impl State {
@@ -8,13 +10,20 @@ impl State {
     pub fn copy(&self) -> Result<Self, OutOfMemory>
         ensures { IfOk result (λ copy. copy ≡ self.now) }
     {
-        let room = INTERFACES as usize * MEMBERS;
-        let mut members = Vec::with_capacity(*self.members.allocator(), room)?;
-        members.extend_from_slice(&self.members)?;
         Ok(State {
-            members,
+            hooks: copy_all(*self.hooks.allocator(), &self.hooks)?,
             rules: self.rules.copy()?,
             count: self.count,
         })
     }
+}
+
+fn copy_all(alloc: Global, hooks: &[Hook]) -> Result<Vec<Hook>, OutOfMemory>
+    ensures { IfOk result (λ copies. copies.items ≡ hooks.now) }
+{
+    let mut copies = Vec::with_capacity(alloc, hooks.len())?;
+    for hook in hooks {
+        copies.push(hook.copy())?;
+    }
+    Ok(copies)
 }

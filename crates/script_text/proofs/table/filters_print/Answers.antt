@@ -9,14 +9,14 @@ loop-place-init g c = printed_none _ _ _ _
 pub loop-place-preserved : goal.loop-place-preserved
 loop-place-preserved g c =
     printed_more _ _ c.loop-place.invariant
-    (filters_from-drop c.args.members.now c.args.interfaces.now c.loop-place.place c.at-interface.result.now c.at-interface.ensures)
-    (rw (c.as_slice.ensures, c.member_on-member.ensures) at c.in_ok-member_print.ensures)
+    (filters_from-drop c.args.state.now.members c.args.interfaces.now c.loop-place.place c.at-interface.result.now c.at-interface.ensures)
+    (rw (c.as_slice.ensures, c.filter_in-filter.ensures, c.chain.ensures) at c.in_ok-member_print.ensures)
 
 pub returns-in_err-member_print : goal.returns-in_err-member_print
 returns-in_err-member_print g c =
     printed_stop _ _ c.from_residual.result c.from_residual.ensures.0 c.loop-place.invariant
-    (filters_from-drop c.args.members.now c.args.interfaces.now c.loop-place.place c.at-interface.result.now c.at-interface.ensures)
-    (rw (c.as_slice.ensures, c.member_on-member.ensures) at c.in_err-member_print.ensures)
+    (filters_from-drop c.args.state.now.members c.args.interfaces.now c.loop-place.place c.at-interface.result.now c.at-interface.ensures)
+    (rw (c.as_slice.ensures, c.filter_in-filter.ensures, c.chain.ensures) at c.in_err-member_print.ensures)
 
 pub returns : goal.returns
-returns g c = printed_all c.loop-place.invariant (filters_from-none c.args.members.now c.args.interfaces.now c.loop-place.place (omega (arith, c.len-place-end.ensures)))
+returns g c = printed_all c.loop-place.invariant (filters_from-none c.args.state.now.members c.args.interfaces.now c.loop-place.place (omega (arith, c.len-place-end.ensures)))

@@ -7,4 +7,4 @@ use Rattle.script_text.proofs.table.filters_print.Given as goal
 abbrev pub invariant-loop-place : goal.invariant-loop-place
 invariant-loop-place g l =
     HasPrinted g.P.Printer.tells g.P.Printer.counts (g.P.Printer.state l.fn.printer) (g.P.Printer.state l.printer)
-    (filters_from l.members 0 l.interfaces) (filters_from l.members l.place (drop l.place l.interfaces))
+    (filters_from l.state.members 0 l.interfaces) (filters_from l.state.members l.place (drop l.place l.interfaces))

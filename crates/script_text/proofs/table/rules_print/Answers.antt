@@ -5,10 +5,10 @@ use Rattle.script_text.proofs.table.rules_print.Goals as goal
 pub returns-in_err-filters_print : goal.returns-in_err-filters_print
 unfolding rules_text
 returns-in_err-filters_print g c =
-    prints_stop _ c.from_residual.result c.from_residual.ensures.0 (rw c.members.ensures at c.in_err-filters_print.ensures)
+    prints_stop _ c.from_residual.result c.from_residual.ensures.0 c.in_err-filters_print.ensures
 
 pub returns-in_err-rows_print : goal.returns-in_err-rows_print
 unfolding rules_text
 returns-in_err-rows_print g c =
-    prints_then _ (rw c.members.ensures at c.in_ok-filters_print.ensures)
+    prints_then _ c.in_ok-filters_print.ensures
     (prints_stop _ c.from_residual-in_err-rows_print.result c.from_residual-in_err-rows_print.ensures.0 (rw c.rules.ensures at c.in_err-rows_print.ensures))

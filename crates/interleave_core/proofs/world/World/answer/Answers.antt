@@ -10,4 +10,4 @@ publish-requires c =
     let same : c.self.inside.state ≡ after c.args.self.now.published = inv.state ∙ ap (λ (m : Moment). after m.published) c.self.view_is in
     let many : length c.self.inside.changes.items ≡ length c.args.self.now.published = ap (λ (m : Moment). length m.published) c.self.view_is in
     let few : c.self.inside.state.count < 65536 = omega (arith, count-is c.self.inside.state c.self.inside.changes.items inv.state inv.taken, many, c.requires.room) in
-    subst (λ (b : Book). takes b c.in-Accepted.change ≡ true) same (c.in-Accepted.ensures.taken c.in-Accepted.change refl few c.requires.interfaces)
+    subst (λ (b : Book). takes b c.in-Accepted.change ≡ true) same (c.in-Accepted.ensures.taken c.in-Accepted.change refl few)

@@ -1,0 +1,91 @@
+-- How many names of a list are less than another one.
+use Rattle.std.proofs.Common.{◌≡◌, ℕ, zero, suc, ◌+◌, ◌<◌, ◌≤◌, Bool, true, false, not, cond, ◌&&◌, ◌||◌, List, [], ◌∷◌, ◌++◌, length, map, drop, refl, sym, ap, ◌∙◌, subst, slice_get, Some, nat_eq, add-one, arith}
+use Rattle.std.specs.Prelude.{count_by, slice_index_or}
+use Rattle.std.specs.Cmp.Lexicographic.{pointwise, bytes_decides}
+use Rattle.std.proofs.lemmas.Bool.{or_right}
+use Rattle.std.proofs.lemmas.Bool.Decides.{nat_tests}
+use Rattle.std.proofs.lemmas.List.{map-append}
+use Rattle.std.proofs.lemmas.List.Folds.{list_any-append}
+use Rattle.std.proofs.lemmas.List.Sums.{sum_by-cons}
+use Rattle.std.proofs.Math.Seq.{drop-cons}
+use Rattle.object_load.specs.declared.program.Program.{Program}
+use Rattle.xdp_state.specs.Library.{all_names, different, filter_name, is_among, is_less, lesser, names_of, program_at, programs_of}
+use Rattle.xdp_state.specs.declared.library.Library.{Library}
+
+-- a name counts where it is less and isn't there again
+pub lesser-cons : (first : List ℕ) (names : List (List ℕ)) (name : List ℕ) → lesser (first ∷ names) name ≡ cond (is_less first name && not (is_among first names)) 1 0 + lesser names name
+unfolding lesser
+lesser-cons first names name = by (is_among first names) (is_less first name) refl refl where
+  by : (b c : Bool) → is_among first names ≡ b → is_less first name ≡ c → count_by (λ other. is_less other name) (different (first ∷ names)) ≡ cond (is_less first name && not (is_among first names)) 1 0 + count_by (λ other. is_less other name) (different names)
+  by true true again less = rw (again, less) (omega arith)
+  by true false again less = rw (again, less) (omega arith)
+  by false true again less = rw again (rw (sum_by-cons (λ other. cond (is_less other name) 1 0) first (different names), less) refl)
+  by false false again less = rw again (rw (sum_by-cons (λ other. cond (is_less other name) 1 0) first (different names), less) refl)
+
+pub lesser-nil : (name : List ℕ) → lesser [] name ≡ 0
+unfolding lesser
+lesser-nil name = refl
+
+bit : (b : Bool) → cond b 1 0 ≤ 1
+bit true = omega arith
+bit false = omega arith
+
+pub lesser-le : (names : List (List ℕ)) (name : List ℕ) → lesser names name ≤ length names
+lesser-le [] name = omega (arith, lesser-nil name)
+lesser-le (first ∷ names) name =
+    omega (arith, lesser-cons first names name, bit (is_less first name && not (is_among first names)), lesser-le names name)
+
+cmp_itself : (name : List ℕ) → is_less name name ≡ false
+cmp_itself [] = refl
+cmp_itself (x ∷ name) = grind (arith, nat_tests, cmp_itself name)
+
+-- a name isn't less than itself
+pub lesser-lt : (names : List (List ℕ)) (name : List ℕ) → is_among name names ≡ true → lesser names name < length names
+lesser-lt [] name among = absurd cc
+lesser-lt (first ∷ names) name among = by (pointwise nat_eq name first) refl where
+  by : (b : Bool) → pointwise nat_eq name first ≡ b → lesser (first ∷ names) name < length (first ∷ names)
+  by true same =
+      let is : name ≡ first = (bytes_decides name first).0 same in
+      let not_less : is_less first name ≡ false = subst (λ n. is_less n name ≡ false) is (cmp_itself name) in
+      let none : cond (is_less first name && not (is_among first names)) 1 0 ≡ 0 = rw not_less refl in
+      omega (arith, lesser-cons first names name, none, lesser-le names name)
+  by false other =
+      let behind : is_among name names ≡ true = rw other at among in
+      omega (arith, lesser-cons first names name, bit (is_less first name && not (is_among first names)), lesser-lt names name behind)
+
+-- the names of two lists of programs
+pub names_of-append : (programs others : List Program) → names_of (programs ++ others) ≡ names_of programs ++ names_of others
+names_of-append programs others = map-append (λ program. program.name) programs others
+
+pub is_among-append : (name : List ℕ) (names others : List (List ℕ)) → is_among name (names ++ others) ≡ (is_among name names || is_among name others)
+is_among-append name names others = list_any-append (pointwise nat_eq name) names others
+
+-- the names from a place on, and from the next one
+pub lesser-next : (programs : List Program) (behind : List (List ℕ)) (name : List ℕ) (place : ℕ) (program : Program) → place < length programs → program ≡ slice_index_or programs place program
+    → lesser (names_of (drop place programs) ++ behind) name
+    ≡ cond (is_less program.name name && not (is_among program.name (names_of (drop (place + 1) programs)) || is_among program.name behind)) 1 0
+    + lesser (names_of (drop (place + 1) programs) ++ behind) name
+lesser-next programs behind name place program below is =
+    let rest = names_of (drop (place + 1) programs) in
+    let at : drop place programs ≡ program ∷ drop (place + 1) programs = rw (drop-cons programs place program below, ← is, add-one) refl in
+    ap (λ ps. lesser (names_of ps ++ behind) name) at
+    ∙ lesser-cons program.name (rest ++ behind) name
+    ∙ ap (λ b. cond (is_less program.name name && not b) 1 0 + lesser (rest ++ behind) name) (is_among-append program.name rest behind)
+
+-- the names that have a rank
+among-itself : (name : List ℕ) (names : List (List ℕ)) → is_among name (name ∷ names) ≡ true
+among-itself name names = rw ((bytes_decides name name).1 refl) refl
+
+among-at : (programs : List Program) (number : ℕ) (program : Program) → slice_get programs number ≡ Some program → is_among program.name (names_of programs) ≡ true
+among-at [] number program is = absurd cc
+among-at (p ∷ programs) zero program is = let same : p ≡ program = cc in rw same (among-itself program.name (names_of programs))
+among-at (p ∷ programs) (suc number) program is =
+    or_right (pointwise nat_eq program.name p.name) (is_among program.name (names_of programs)) (among-at programs number program is)
+
+pub program-known : (library : Library) (number : ℕ) (program : Program) → program_at library number ≡ Some program → is_among program.name (all_names library) ≡ true
+program-known library number program is =
+    let names = names_of (programs_of library.objects) in
+    or_right (pointwise nat_eq program.name filter_name) (is_among program.name names) (among-at (programs_of library.objects) number program is)
+
+pub filter-known : (library : Library) → is_among filter_name (all_names library) ≡ true
+filter-known library = among-itself filter_name (names_of (programs_of library.objects))

@@ -1,0 +1,8 @@
+use Rattle.std.proofs.Common.{◌≡◌, false}
+use Rattle.std.specs.List.{list_any, range_with_len}
+use Rattle.xdp_state.specs.Members.{chain_on, has_feature}
+use Rattle.xdp_state.proofs.filters.is_on.Given as goal
+
+abbrev pub invariant-loop-interface : goal.invariant-loop-interface
+invariant-loop-interface l =
+    list_any (λ interface. list_any (λ member. has_feature l.feature member.kind) (chain_on l.state.members interface)) (range_with_len 0 l.interface) ≡ false
