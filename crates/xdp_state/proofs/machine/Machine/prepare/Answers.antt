@@ -6,7 +6,7 @@ use Rattle.xdp_state.proofs.machine.Machine.prepare.Goals as goal
 pub returns-clause-stores : goal.returns-clause-stores
 unfolding prepared
 returns-clause-stores c =
-    c.append.ensures ∙ ap (λ stores. stores ++ c.in_ok-made.field-0.items) c.keep_staying.ensures.stores
+    c.append.ensures ∙ ap (λ stores. stores ++ c.in_ok-made.made.items) c.keep_staying.ensures.stores
     ∙ ap (λ made. staying c.args.library.now c.args.chain.now c.args.self.now.stores.items ++ made) c.in_ok-made.ensures.made
 
 pub returns-clause-ready : goal.returns-clause-ready
