@@ -5,13 +5,13 @@ use Rattle.xdp_state.proofs.Lesser.{program-known}
 use Rattle.xdp_state.proofs.Programs.{program-numbered}
 use Rattle.xdp_state.proofs.answer.loader.load_change.Goals as goal
 
-pub number_of-requires-place : goal.number_of-requires-place
-number_of-requires-place c =
+pub number_of-requires-clause-place : goal.number_of-requires-clause-place
+number_of-requires-clause-place c =
     let row = c.requires.program.0 in
     (row, c.requires.program.1, slice_get_within (programs_in row.loaded) c.args.place c.args.program.now c.requires.program.2)
 
-pub rank-requires-known : goal.rank-requires-known
-rank-requires-known c =
+pub rank-requires-clause-known : goal.rank-requires-clause-known
+rank-requires-clause-known c =
     let library = c.args.library.now in
     let object = c.args.words.now.object in
     let row = c.requires.program.0 in
