@@ -12,8 +12,9 @@ use Rattle.chain_order.specs.Sorted.{by_key}
 use Rattle.chain_order.specs.declared.member.Kind.{Kind}
 use Rattle.chain_order.specs.declared.member.Member.{Member}
 use Rattle.chain_order.proofs.Chains.{count-cons}
+use Rattle.filter_rules.specs.declared.rule.RuleRow.{RuleRow}
 use Rattle.xdp_state.specs.Book.{Book, empty, has_place}
-use Rattle.xdp_state.specs.Members.{chain_on, differs, has_filter, is_filter, members_off, members_without, mode_on}
+use Rattle.xdp_state.specs.Members.{Attached, chain_on, differs, has_filter, is_filter, members_off, members_without, mode_on}
 use Rattle.xdp_state.specs.State.{IsWhole, attached_at, attached_from, in_order, view_of}
 use Rattle.xdp_state.specs.declared.hook.Hook.{Hook}
 use Rattle.xdp_state.specs.declared.mode.Mode.{Mode}
@@ -58,8 +59,8 @@ whole-new s hooks count =
       count = omega arith;
     }
 
-pub view-new : (s : Inside) → s.hooks.items ≡ replicate 8 first_hook → s.rules ≡ [] → s.count ≡ 0 → view_of s ≡ empty
-view-new s hooks rules count = rw (count, rules, in_order-new s.hooks.items hooks) refl
+pub view-new : (hooks : List Hook) (rules : List RuleRow) → hooks ≡ replicate 8 first_hook → rules ≡ [] → record { members = in_order (attached_from 0 hooks) 0; rows = rules; count = 0 } ≡ empty
+view-new hooks rules is none = rw (none, in_order-new hooks is) refl
 
 -- a state of the same hooks
 pub whole-same : (s t : Inside) → IsWhole s → t.hooks.items ≡ s.hooks.items → t.count ≡ s.count → IsWhole t
@@ -106,10 +107,10 @@ pub record Attach (s : Inside) (interface : ℕ) (mode : Mode) (member : Member)
 pub whole-attach : (s t : Inside) (interface : ℕ) (mode : Mode) (member : Member) (place : ℕ) (hook new : Hook) → Attach s interface mode member place hook new → t.hooks.items ≡ slice_set s.hooks.items interface new → t.count ≡ s.count + 1 → IsWhole t
 whole-attach s t interface mode member place hook new a hooks count = whole-joined s t interface mode member place hook new a.joins a.few hooks count a.chain
 
-pub view-attach : (s t : Inside) (interface : ℕ) (mode : Mode) (member : Member) (place : ℕ) (hook new : Hook) → Attach s interface mode member place hook new → t.hooks.items ≡ slice_set s.hooks.items interface new → t.count ≡ s.count + 1 → t.rules ≡ s.rules
-    → view_of t ≡ record (view_of s) { members = (view_of s).members ++ placed interface mode member ∷ []; count = s.count + 1 }
-view-attach s t interface mode member place hook new a hooks count rules =
-    rw (rules, count, hooks, in_order-joined s interface mode member place hook new a.joins) refl
+pub view-attach : (s : Inside) (interface : ℕ) (mode : Mode) (member : Member) (place : ℕ) (hook new : Hook) (hooks : List Hook) → Attach s interface mode member place hook new → hooks ≡ slice_set s.hooks.items interface new
+    → record { members = in_order (attached_from 0 hooks) (s.count + 1); rows = s.rules; count = s.count + 1 } ≡ record (view_of s) { members = (view_of s).members ++ placed interface mode member ∷ []; count = s.count + 1 }
+view-attach s interface mode member place hook new hooks a is =
+    rw (is, in_order-joined s interface mode member place hook new a.joins) refl
 
 -- members that no test finds
 abbrev bit : Bool → ℕ
@@ -160,8 +161,9 @@ pub record Detach (s : Inside) (interface : ℕ) (leaves : Member → Bool) (hoo
 pub whole-detach : (s t : Inside) (interface : ℕ) (leaves : Member → Bool) (hook new : Hook) → Detach s interface leaves hook new → t.hooks.items ≡ slice_set s.hooks.items interface new → t.count ≡ s.count + 1 → IsWhole t
 whole-detach s t interface leaves hook new d hooks count = whole-left s t interface leaves hook new d.leave d.few hooks count d.chain
 
-pub members-detach : (s t : Inside) (interface : ℕ) (leaves : Member → Bool) (hook new : Hook) → Detach s interface leaves hook new → t.hooks.items ≡ slice_set s.hooks.items interface new → t.count ≡ s.count + 1 → (view_of t).members ≡ filter (stays interface leaves) (view_of s).members
-members-detach s t interface leaves hook new d hooks count = rw (hooks, count) (in_order-left s interface leaves hook new d.leave)
+pub view-detach : (s : Inside) (interface : ℕ) (leaves : Member → Bool) (hook new : Hook) (hooks : List Hook) (rows left : List RuleRow) → Detach s interface leaves hook new → hooks ≡ slice_set s.hooks.items interface new → rows ≡ left
+    → record { members = in_order (attached_from 0 hooks) (s.count + 1); rows = rows; count = s.count + 1 } ≡ (let book : Book = record { members = filter (stays interface leaves) (view_of s).members; rows = left; count = s.count + 1 } in book)
+view-detach s interface leaves hook new hooks rows left d is same = rw (is, same, in_order-left s interface leaves hook new d.leave) refl
 
 -- the member of a number, and all members
 pub leave-number : (s : Inside) (interface number : ℕ) (hook : Hook) (chain : List Member) → IsWhole s → slice_get s.hooks.items interface ≡ Some hook → chain ≡ without number hook.chain
@@ -182,8 +184,11 @@ leave-all s interface hook whole here = record {
 pub chain-all : (members chain : List Member) → IsChain members chain → IsChain (filter (λ m. not true) members) []
 chain-all members chain is = rw (none_stay members) no_chain
 
-pub members-all : (s t : Inside) (interface : ℕ) (hook : Hook) → Detach s interface (λ m. true) hook first_hook → t.hooks.items ≡ slice_set s.hooks.items interface first_hook → t.count ≡ s.count + 1 → (view_of t).members ≡ members_off (view_of s).members interface
-members-all s t interface hook d hooks count = members-detach s t interface (λ m. true) hook first_hook d hooks count ∙ members_off-is (view_of s).members interface
+pub view-all : (s : Inside) (interface : ℕ) (hook : Hook) (hooks : List Hook) → Detach s interface (λ m. true) hook first_hook → hooks ≡ slice_set s.hooks.items interface first_hook
+    → record { members = in_order (attached_from 0 hooks) (s.count + 1); rows = s.rules; count = s.count + 1 } ≡ record (view_of s) { members = members_off (view_of s).members interface; count = s.count + 1 }
+view-all s interface hook hooks d is =
+    view-detach s interface (λ m. true) hook first_hook hooks s.rules s.rules d is refl
+    ∙ ap (λ (members : List Attached). record (view_of s) { members = members; count = s.count + 1 }) (members_off-is (view_of s).members interface)
 
 -- the hook that is lent
 pub hook_at : (s : Inside) (interface : ℕ) (hook : Hook) → IsWhole s → interface < 8 → hook ≡ slice_index_or s.hooks.items interface hook → slice_get s.hooks.items interface ≡ Some hook

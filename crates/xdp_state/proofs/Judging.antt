@@ -121,7 +121,7 @@ object-taken library book interface words (Some (loaded.Programs programs)) chan
 
 load-taken : (library : Library) (book : Book) (words : LoadWords) (change : Change) → nat_lt book.count 65536 ≡ true → length library.interfaces ≤ 8 → load_answer library book words ≡ Accepted change → takes book change ≡ true
 load-taken library book words change count few is =
-    let h = at_interface-accepted library words.interface _ change few is in
+    let h = at_interface-accepted library words.interface (λ interface. object_answer library book interface words (loaded_at library words.object)) change few is in
     object-taken library book (interface_named library.interfaces words.interface) words (loaded_at library words.object) change count h.below h.there
 
 off-change : (book : Book) (interface : ℕ) (id : Option ℕ) (change : Change) → nat_lt book.count 65536 ≡ true → nat_lt interface 8 ≡ true → off_change interface id ≡ change → takes book change ≡ true
@@ -130,7 +130,7 @@ off-change book interface (Some id) change count below is = subst (λ change. ta
 
 off-taken : (library : Library) (book : Book) (name : List ℕ) (id : Option ℕ) (change : Change) → nat_lt book.count 65536 ≡ true → length library.interfaces ≤ 8 → at_interface library name (λ interface. off_answer book interface id) ≡ Accepted change → takes book change ≡ true
 off-taken library book name id change count few is =
-    let h = at_interface-accepted library name _ change few is in
+    let h = at_interface-accepted library name (λ interface. off_answer book interface id) change few is in
     let interface : ℕ = interface_named library.interfaces name in
     let chain = chain_on book.members interface in
     let two = passed_two (length chain == 0) (not (has_asked chain id)) NothingLoaded NoSuchId (Accepted (off_change interface id)) change h.there in
@@ -144,7 +144,7 @@ status-taken library (Some name) change is =
 
 filter-taken : (library : Library) (book : Book) (name : List ℕ) (k : Kind) (mode : Mode) (change : Change) → nat_lt book.count 65536 ≡ true → length library.interfaces ≤ 8 → at_interface library name (filter_answer library book k mode) ≡ Accepted change → takes book change ≡ true
 filter-taken library book name k mode change count few is =
-    let h = at_interface-accepted library name _ change few is in
+    let h = at_interface-accepted library name (filter_answer library book k mode) change few is in
     let interface : ℕ = interface_named library.interfaces name in
     let one = passed (has_filter (chain_on book.members interface)) FilterThere (attach_answer book interface mode (Attach interface k 10 (rank library filter_name) 4 mode)) change h.there in
     attach-taken book interface 10 (rank library filter_name) 4 k mode change count h.below (none_both (is_filter k) _ one.none) one.later
@@ -155,7 +155,7 @@ filter-taken library book name k mode change count few is =
 
 filter_off-taken : (library : Library) (book : Book) (name : List ℕ) (keep : Bool) (change : Change) → nat_lt book.count 65536 ≡ true → length library.interfaces ≤ 8 → at_interface library name (filter_off_answer book keep) ≡ Accepted change → takes book change ≡ true
 filter_off-taken library book name keep change count few is =
-    let h = at_interface-accepted library name _ change few is in
+    let h = at_interface-accepted library name (filter_off_answer book keep) change few is in
     let interface : ℕ = interface_named library.interfaces name in
     let chain = chain_on book.members interface in
     let asked : Change = Detach interface (filter_number chain) (not keep && not (has_filter_elsewhere book.members interface)) in

@@ -80,7 +80,8 @@ programs_of-take (o ∷ objects) (suc place) object is =
 
 -- the programs of the first objects, and of one behind them, are among all
 pub few_taken : (objects : List ObjectRow) (first : ℕ) → length (programs_of (take first objects)) ≤ length (programs_of objects)
-few_taken [] first = omega arith
+few_taken [] zero = omega arith
+few_taken [] (suc first) = omega arith
 few_taken (o ∷ objects) zero = omega arith
 few_taken (o ∷ objects) (suc first) =
     let some = length-append (programs_in o.loaded) (programs_of (take first objects)) in

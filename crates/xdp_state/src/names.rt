@@ -1,6 +1,6 @@
 //! The names of programs and of the filter, in the order of their bytes.
 
-ghost use Rattle.std.specs.Prelude.{◌≡◌, ◌+◌, ◌++◌, ◌≤◌, true, length};
+ghost use Rattle.std.specs.Prelude.{◌≡◌, ◌+◌, ◌++◌, ◌<◌, ◌≤◌, ◌^◌, true, length};
 ghost use Rattle.xdp_state.specs.Library.{IsSound, all_names, is_among, is_last_less, is_named, is_named_in, lesser, names_of, programs_of, rank};
 
 use crate::library::{Library, ObjectRow};
@@ -24,6 +24,7 @@ pub(crate) fn rank(library: &Library, name: &[u8]) -> u32
 
 /// How many different names of programs are less.
 fn lesser_in_objects(objects: &[ObjectRow], name: &[u8]) -> usize
+    requires { length (programs_of objects.now) < 2 ^ 32 }
     ensures value { result ≡ lesser (names_of (programs_of objects.now)) name.now }
     ensures within { result ≤ length (programs_of objects.now) }
 {

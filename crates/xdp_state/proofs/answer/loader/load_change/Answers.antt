@@ -1,6 +1,6 @@
-use Rattle.std.proofs.Common.{◌<◌, length, ◌∙◌}
+use Rattle.std.proofs.Common.{◌≡◌, ◌<◌, ℕ, List, true, length, sym, subst, ◌∙◌}
 use Rattle.std.proofs.lemmas.Option.{slice_get_within}
-use Rattle.xdp_state.specs.Library.{number_of, programs_in}
+use Rattle.xdp_state.specs.Library.{all_names, is_among, number_of, programs_in}
 use Rattle.xdp_state.proofs.Lesser.{program-known}
 use Rattle.xdp_state.proofs.Programs.{program-numbered}
 use Rattle.xdp_state.proofs.answer.loader.load_change.Goals as goal
@@ -16,5 +16,6 @@ rank-requires-clause-known c =
     let object = c.args.words.now.object in
     let row = c.requires.program.0 in
     let within : c.args.place < length (programs_in row.loaded) = slice_get_within (programs_in row.loaded) c.args.place c.args.program.now c.requires.program.2 in
-    program-known library (number_of library object c.args.place) c.args.program.now
-    (program-numbered library.objects object c.args.place row c.requires.program.1 within ∙ c.requires.program.2)
+    subst (λ (name : List ℕ). is_among name (all_names library) ≡ true) (sym c.as_slice.ensures)
+    (program-known library (number_of library object c.args.place) c.args.program.now
+    (program-numbered library.objects object c.args.place row c.requires.program.1 within ∙ c.requires.program.2))

@@ -38,4 +38,4 @@ pub invariant_of-self : goal.invariant_of-self
 invariant_of-self c = whole-attach c.self.inside _ c.args.interface c.args.mode c.args.member (place_of c.index_mut-hook.result.now.chain c.args.member) c.index_mut-hook.result.now (joined c) (joining c) refl refl
 
 pub returns : goal.returns
-returns c = rw (← c.self.view_is) (view-attach c.self.inside _ c.args.interface c.args.mode c.args.member (place_of c.index_mut-hook.result.now.chain c.args.member) c.index_mut-hook.result.now (joined c) (joining c) refl refl refl)
+returns c = rw (← c.self.view_is) (view-attach c.self.inside c.args.interface c.args.mode c.args.member (place_of c.index_mut-hook.result.now.chain c.args.member) c.index_mut-hook.result.now (joined c) _ (joining c) refl)
