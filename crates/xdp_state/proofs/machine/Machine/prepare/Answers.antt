@@ -8,9 +8,9 @@ unfolding prepared
 returns-clause-stores c =
     let stores = c.args.self.now.stores.items in
     let front : c.keep_staying.new.stores.items ≡ staying c.args.library.now c.args.chain.now stores =
-      c.keep_staying.ensures.stores ∙ ap (λ (stores : List MemberMaps). staying c.args.library.now c.args.chain.now stores) c.reserve.ensures.items in
+    c.keep_staying.ensures.stores ∙ ap (λ (stores : List MemberMaps). staying c.args.library.now c.args.chain.now stores) c.reserve.ensures.items in
     let behind : c.in_ok-made.made.items ≡ entering c.args.library.now c.args.chain.now stores =
-      c.in_ok-made.ensures.made ∙ ap (λ (stores : List MemberMaps). entering c.args.library.now c.args.chain.now stores) c.deref.ensures.value in
+    c.in_ok-made.ensures.made ∙ ap (λ (stores : List MemberMaps). entering c.args.library.now c.args.chain.now stores) c.deref.ensures.value in
     c.append.ensures ∙ ap (λ (front : List MemberMaps). front ++ c.in_ok-made.made.items) front
     ∙ ap (λ (behind : List MemberMaps). staying c.args.library.now c.args.chain.now stores ++ behind) behind
 

@@ -27,8 +27,8 @@ returns c =
     let stores_is : own.machine.stores.items ≡ c.args.own.now.standing.stores = rw (← c.own.view_is) refl in
     let chain_is : c.chain.result.now ≡ chain_on c.args.state.now.members c.args.own.now.standing.interface = rw (← c.own.view_is) c.chain.ensures in
     let way : way_of c.args.library.now c.args.state.now c.args.own.now.standing c.args.packet.now ≡ left =
-      way_is c.args.library.now c.args.state.now c.args.own.now.standing c.args.packet.now c.rules.result.now env c.fill.new.self own.machine.stores.items c.chain.result.now left
-      c.rules.ensures env_is packet_is stores_is chain_is c.visit_all-last.ensures.way in
+    way_is c.args.library.now c.args.state.now c.args.own.now.standing c.args.packet.now c.rules.result.now env c.fill.new.self own.machine.stores.items c.chain.result.now left
+    c.rules.ensures env_is packet_is stores_is chain_is c.visit_all-last.ensures.way in
     record {
       standing = rw (way, ← c.own.view_is) refl;
       trip = rw (way, c.decided_by-verdict.ensures.verdict, c.decided_by-verdict.ensures.target) refl;
