@@ -25,7 +25,7 @@ all_of_none p (x ∷ xs) none = absurd (omega arith)
 
 -- interfaces stand before all lines
 pub sound_interface : (script : Script) (interface : Interface) → IsSound script → has_room script.interfaces interface.queues ≡ true → length script.lines ≡ 0
-    → IsSound (record { interfaces = script.interfaces ++ interface ∷ []; lines = script.lines })
+    → IsSound (record script { interfaces = script.interfaces ++ interface ∷ [] })
 sound_interface script interface sound room none =
     let more : queue_count (script.interfaces ++ interface ∷ []) ≡ queue_count script.interfaces + interface.queues =
     omega (arith, sum_by-append (λ (i : Interface). i.queues) script.interfaces (interface ∷ [])) in
@@ -38,10 +38,10 @@ sound_interface script interface sound room none =
       queues = omega (arith, more, fits);
     }
 
-pub sound_line : (script : Script) (line : Line) → IsSound script → asks_frame line.what ≡ true
+pub sound_line : (script : Script) (objects : List (List ℕ)) (line : Line) → IsSound script → asks_frame line.what ≡ true
     → asks_processor (queue_count script.interfaces) line.what ≡ true → asks_flags line.what ≡ true
-    → IsSound (record { interfaces = script.interfaces; lines = script.lines ++ line ∷ [] })
-sound_line script line sound frame processor flags = record {
+    → IsSound (record { interfaces = script.interfaces; objects = objects; lines = script.lines ++ line ∷ [] })
+sound_line script objects line sound frame processor flags = record {
   frames = list_all-push has_frame script.lines line sound.frames frame;
   processors = list_all-push (has_processor (queue_count script.interfaces)) script.lines line sound.processors processor;
   flags = list_all-push has_flags script.lines line sound.flags flags;

@@ -7,6 +7,7 @@ ghost use Rattle.script_text.specs.Script.{script_of, bad_script, Agrees};
 
 use crate::line::read_line;
 use crate::lines::{has_more_lines, split_line};
+use crate::objects::NameList;
 use crate::reading::LineEnd;
 use crate::rule::Rule;
 use crate::what::LineList;
@@ -16,10 +17,12 @@ use xdp_state::InterfaceList;
 /// The most lines of a script.
 const MOST_LINES: u32 = 65_536;
 
-/// A script: the interfaces that it declares, and what its other lines ask.
+/// A script: the interfaces that it declares, the files of the objects that it loads, and what its other lines ask.
 #[derive(Debug, Drop)]
 pub struct Script {
     pub interfaces: InterfaceList,
+    /// Each once, in the order of the lines that name them first; commands name them by their places.
+    pub objects: NameList,
     pub lines: LineList,
 }
 
@@ -44,6 +47,7 @@ pub fn read_script(alloc: Global, bytes: &[u8]) -> Result<Script, ScriptEnd>
 {
     let mut script = Script {
         interfaces: InterfaceList::new(alloc),
+        objects: NameList::new(alloc),
         lines: LineList::new(alloc),
     };
     let mut line = 0;
