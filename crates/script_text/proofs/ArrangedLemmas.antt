@@ -31,7 +31,4 @@ pub value-bad : (verb : Verb) (so_far : Arranged) (rule : ℕ) (word value : Lis
     → with_value so_far (role_of verb word) value ≡ Err rule → arranged_behind verb so_far (word ∷ value ∷ words) ≡ Err rule
 value-bad verb so_far rule word value words has bad = rw (has, bad) refl
 
--- no word stands behind it
-pub value-none : (verb : Verb) (so_far : Arranged) (word : List ℕ) → has_value (role_of verb word) ≡ true → with_word so_far (role_of verb word) word ≡ Err 3
-    → arranged_behind verb so_far (word ∷ []) ≡ Err 3
-value-none verb so_far word has bad = bad
+pub ruleset arranging = (word-read, word-bad, value-read, value-bad)

@@ -5,7 +5,7 @@ use Rattle.std.specs.Str.{bytes_eq}
 use Rattle.std.proofs.lemmas.List.Quantifiers.{position-Some}
 
 -- a place that was found is a place of the list
-found_within : (name : List ℕ) (objects : List (List ℕ)) (place : ℕ) → position (λ object. bytes_eq object name) objects ≡ Some place → place < length objects
+pub found_within : (name : List ℕ) (objects : List (List ℕ)) (place : ℕ) → position (λ object. bytes_eq object name) objects ≡ Some place → place < length objects
 found_within name objects place is = (position-Some (λ object. bytes_eq object name) objects place name is).0
 
 pub ruleset placed = (found_within)

@@ -1,6 +1,6 @@
 ghost use Rattle.std.specs.Prelude.{◌≡◌, ◌≤◌, ◌∷◌, length, Ok, Err, MatchResult, IfOk};
 ghost use Rattle.script_text.specs.WordViews.{plain_of, arranged_of};
-ghost use Rattle.script_text.specs.Options.{no_plain, with_own, with_label, with_word, with_value, arranged_behind, arranged};
+ghost use Rattle.script_text.specs.Options.{has_value, no_plain, with_own, with_label, with_word, with_value, arranged_behind, arranged};
 ghost use Rattle.script_text.specs.Words.{words_of};
 
 use crate::options::{Given, Label, Role, Verb, role_of};
@@ -98,6 +98,13 @@ fn with_value<'a>(words: Words<'a>, role: Role, value: &'a [u8]) -> Result<Words
     }
 }
 
+/// Whether the word's value is the next word.
+fn has_value(role: Role) -> bool
+    ensures { result ≡ has_value role }
+{
+    matches!(role, Role::Setting(_) | Role::Label(_))
+}
+
 /// With the word and what belongs to it, and the words behind.
 #[tactic(auto, using(crate::proofs::ArrangedLemmas::arranging))]
 fn take_word<'a>(
@@ -113,7 +120,7 @@ fn take_word<'a>(
     ensures shorter { IfOk result (λ read. length read.1.now ≤ length behind.now) }
 {
     let role = role_of(verb, word);
-    if !matches!(role, Role::Setting(_) | Role::Label(_)) {
+    if !has_value(role) {
         let words = with_word(words, role, word)?;
         return Ok((words, behind));
     }

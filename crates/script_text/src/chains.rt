@@ -105,18 +105,20 @@ fn interface_print<P: Printer>(
     members_print(printer, library, state.chain(place))
 }
 
-/// Prints the table of `xdp-loader status` of one interface, behind its first line.
+/// Prints the table of `xdp-loader status` of one interface, behind its first line; of an interface that isn't declared nothing.
 pub fn chain_print<P: Printer>(
     printer: &mut P,
     state: &State,
     library: &Library,
     interface: u32,
 ) -> Result<(), P::End>
-    requires within { interface < length library.now.interfaces }
-    requires interfaces { length library.now.interfaces ≤ 8 }
+    requires { length library.now.interfaces ≤ 8 }
     ensures { Prints P.tells P.counts (P.state printer.old) (P.state printer.new)
         (chain_text library.now state.now interface) result }
 {
+    if interface >= library.interfaces.len() {
+        return Ok(());
+    }
     let name = library.interfaces.at(interface).name.as_slice();
     interface_print(printer, state, library, interface, name)
 }
@@ -128,7 +130,7 @@ pub fn chains_print<P: Printer>(
     state: &State,
     library: &Library,
 ) -> Result<(), P::End>
-    requires interfaces { length library.now.interfaces ≤ 8 }
+    requires { length library.now.interfaces ≤ 8 }
     ensures { Prints P.tells P.counts (P.state printer.old) (P.state printer.new) (chains_text library.now state.now) result }
 {
     for place in 0..library.interfaces.len() {
@@ -138,15 +140,14 @@ pub fn chains_print<P: Printer>(
     Ok(())
 }
 
-/// The table of `xdp-loader status` of one interface, behind its first line.
+/// The table of `xdp-loader status` of one interface, behind its first line; of an interface that isn't declared nothing.
 pub fn chain_text(
     alloc: Global,
     state: &State,
     library: &Library,
     interface: u32,
 ) -> Result<Bytes, OutOfMemory>
-    requires within { interface < length library.now.interfaces }
-    requires interfaces { length library.now.interfaces ≤ 8 }
+    requires { length library.now.interfaces ≤ 8 }
     ensures { IfOk result (λ text. text ≡ chain_text library.now state.now interface) }
 {
     let mut text = Bytes::new(alloc);

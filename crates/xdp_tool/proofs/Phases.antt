@@ -5,7 +5,7 @@ use Rattle.std.specs.List.{list_any}
 use Rattle.xdp_state.specs.Sums.{Past, past_with}
 use Rattle.xdp_state.specs.Traversals.{Standing, carried_in, standings_in, traversals}
 use Rattle.xdp_state.specs.declared.carried.Carried.{Carried}
-use Rattle.xdp_state.specs.declared.interface.Interface.{Interface}
+use Rattle.xdp_state.specs.declared.library.Library.{Library}
 use Rattle.xdp_tool.specs.Plan.{Phase, has_refusal, is_refused, works_of}
 use Rattle.xdp_tool.specs.Texts.{phase_text, texts_from}
 use Rattle.xdp_tool.specs.Trace.{phase_trace, traces_from}
@@ -58,24 +58,24 @@ pub past_after-more : (past : Past) (carried : List (List (List Carried))) (this
 past_after-more past [] this = refl
 past_after-more past (c ∷ carried) this = past_after-more (past_with past c) carried this
 
-pub texts-more : (interfaces : List Interface) (past : Past) (done : List Phase) (phase : Phase) (rest : List Phase) (carried : List (List (List Carried))) (this : List (List Carried)) → length carried ≡ length done → texts_from interfaces past (done ++ phase ∷ rest) (carried ++ this ∷ []) ≡ texts_from interfaces past done carried ++ phase_text interfaces phase (past_after past carried) (past_with (past_after past carried) this)
-texts-more interfaces past [] phase [] [] this same = append-nil _
-texts-more interfaces past [] phase (r ∷ rest) [] this same = append-nil _
-texts-more interfaces past [] phase rest (c ∷ carried) this same = absurd (omega (arith, same))
-texts-more interfaces past (d ∷ done) phase rest [] this same = absurd (omega (arith, same))
-texts-more interfaces past (d ∷ done) phase rest (c ∷ carried) this same =
-    ap (λ more. phase_text interfaces d past (past_with past c) ++ more)
-    (texts-more interfaces (past_with past c) done phase rest carried this (omega (arith, same)))
-    ∙ sym (append_assoc (phase_text interfaces d past (past_with past c)) _ _)
+pub texts-more : (library : Library) (past : Past) (done : List Phase) (phase : Phase) (rest : List Phase) (carried : List (List (List Carried))) (this : List (List Carried)) → length carried ≡ length done → texts_from library past (done ++ phase ∷ rest) (carried ++ this ∷ []) ≡ texts_from library past done carried ++ phase_text library phase (past_after past carried) (past_with (past_after past carried) this)
+texts-more library past [] phase [] [] this same = append-nil _
+texts-more library past [] phase (r ∷ rest) [] this same = append-nil _
+texts-more library past [] phase rest (c ∷ carried) this same = absurd (omega (arith, same))
+texts-more library past (d ∷ done) phase rest [] this same = absurd (omega (arith, same))
+texts-more library past (d ∷ done) phase rest (c ∷ carried) this same =
+    ap (λ more. phase_text library d past (past_with past c) ++ more)
+    (texts-more library (past_with past c) done phase rest carried this (omega (arith, same)))
+    ∙ sym (append_assoc (phase_text library d past (past_with past c)) _ _)
 
-pub texts-front : (interfaces : List Interface) (past : Past) (done rest : List Phase) (carried : List (List (List Carried))) → length carried ≡ length done → texts_from interfaces past (done ++ rest) carried ≡ texts_from interfaces past done carried
-texts-front interfaces past [] [] [] same = refl
-texts-front interfaces past [] (r ∷ rest) [] same = refl
-texts-front interfaces past [] rest (c ∷ carried) same = absurd (omega (arith, same))
-texts-front interfaces past (d ∷ done) rest [] same = absurd (omega (arith, same))
-texts-front interfaces past (d ∷ done) rest (c ∷ carried) same =
-    ap (λ more. phase_text interfaces d past (past_with past c) ++ more)
-    (texts-front interfaces (past_with past c) done rest carried (omega (arith, same)))
+pub texts-front : (library : Library) (past : Past) (done rest : List Phase) (carried : List (List (List Carried))) → length carried ≡ length done → texts_from library past (done ++ rest) carried ≡ texts_from library past done carried
+texts-front library past [] [] [] same = refl
+texts-front library past [] (r ∷ rest) [] same = refl
+texts-front library past [] rest (c ∷ carried) same = absurd (omega (arith, same))
+texts-front library past (d ∷ done) rest [] same = absurd (omega (arith, same))
+texts-front library past (d ∷ done) rest (c ∷ carried) same =
+    ap (λ more. phase_text library d past (past_with past c) ++ more)
+    (texts-front library (past_with past c) done rest carried (omega (arith, same)))
 
 pub traces-more : (number : ℕ) (done : List Phase) (phase : Phase) (rest : List Phase) (carried : List (List (List Carried))) (this : List (List Carried)) → length carried ≡ length done → traces_from number (done ++ phase ∷ rest) (carried ++ this ∷ []) ≡ traces_from number done carried ++ phase_trace (number + length carried) phase.barrier this
 traces-more number [] phase [] [] this same = rw (append-nil) (let none : number + 0 ≡ number = omega arith in rw none refl)

@@ -14,14 +14,14 @@ use Rattle.script_text.specs.declared.script.Script.{Script}
 -- a turn changes the walk and the state alone
 pub stands-on : (old new : Run) (begun : Begun) (past : Past) (standings : List Standing) (phase next : Phase) → Stands old begun past standings phase → IsAt new.walk begun next → new.walk.script.now ≡ old.walk.script.now → new.state ≡ after next.work.published → new.carrier ≡ old.carrier → new.shown ≡ old.shown → new.buffer ≡ old.buffer → Stands new begun past standings next
 stands-on old new begun past standings phase next stands at same state carrier shown buffer =
-    let interfaces = ap (λ (s : Script). s.interfaces) (sym same) in
+    let library = ap (λ (s : Script). s.interfaces) (sym same) in
     record {
       walks = record {
         at = at;
         state = state;
         carrier = rw carrier stands.walks.carrier;
-        standing = stands.walks.standing ∙ ap (λ is. length (queues_of is)) interfaces;
-        interfaces = ap (λ (s : Shown). s.interfaces.now) shown ∙ (stands.walks.interfaces ∙ interfaces);
+        standing = stands.walks.standing ∙ ap (λ is. length (queues_of is)) library;
+        library = ap (λ (s : Shown). s.interfaces.now) shown ∙ (stands.walks.interfaces ∙ library);
         waiting = buffer ∙ stands.walks.waiting;
       };
       rests = rw shown stands.rests;

@@ -21,8 +21,8 @@ pub record IsUnderWay (run : Run) (begun : Begun) (standings : List Standing) (p
   pub at : IsAt run.walk begun phase
   pub state : run.state ≡ after phase.work.published
   pub carrier : StandsAt run.carrier begun.published standings
-  pub standing : length standings ≡ length (queues_of run.walk.script.now.interfaces)
-  pub interfaces : run.shown.interfaces.now ≡ run.walk.script.now.interfaces
+  pub standing : length standings ≡ length (queues_of run.walk.script.now.library.interfaces)
+  pub library : run.shown.library.now ≡ run.walk.script.now.library
   pub waiting : run.buffer ≡ []
 
 -- the rules after these publications, and the sums of all that was carried
@@ -55,8 +55,8 @@ pub record Ends (run : Run) (begun : Begun) (past : Past) (standings : List Stan
     (lines : List Line) : Type 0 where
   pub phase : Phase
   pub stands : Stands run begun past standings phase
-  pub phases : phases_from run.walk.script.now.interfaces first lines ≡ closed barrier phase
-      ∷ phases_behind run.walk.script.now.interfaces barrier phase (drop run.walk.next run.walk.script.now.lines)
+  pub phases : phases_from run.walk.script.now.library first lines ≡ closed barrier phase
+      ∷ phases_behind run.walk.script.now.library barrier phase (drop run.walk.next run.walk.script.now.lines)
 
 -- the packets of a phase, each carried with as many publications as there were at its hand-in
 abbrev pub at_hand_in : List Standing → Phase → List (List Carried)

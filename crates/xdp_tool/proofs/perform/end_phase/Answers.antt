@@ -35,7 +35,7 @@ returns-in-Ok-write_phase-clause-stands g c = λ begun past standings phase stan
         state = walks.state;
         carrier = walks.carrier;
         standing = walks.standing;
-        interfaces = ap (λ (s : Shown). s.interfaces.now) same ∙ walks.interfaces;
+        library = ap (λ (s : Shown). s.interfaces.now) same ∙ walks.interfaces;
         waiting = c.in-Ok-write_phase.ensures.waiting;
       };
       rests = record {
@@ -44,8 +44,8 @@ returns-in-Ok-write_phase-clause-stands g c = λ begun past standings phase stan
         shows = record {
           rules = c.in-Ok-write_phase.ensures.book begun.published (closed c.args.barrier phase) past (at_hand_in standings phase) shows is;
           sums = ap (λ (s : Shown). s.sums) same ∙ shows.sums;
-          queues = ap (λ (s : Shown). map queue_of s.queues) same ∙ (shows.queues ∙ sym (ap (λ (s : Shown). queues_of s.interfaces.now) same));
-          processors = shows.processors ∙ sym (ap (λ (s : Shown). length (queues_of s.interfaces.now)) same);
+          queues = ap (λ (s : Shown). map queue_of s.queues) same ∙ (shows.queues ∙ sym (ap (λ (s : Shown). queues_of s.library.interfaces.now) same));
+          processors = shows.processors ∙ sym (ap (λ (s : Shown). length (queues_of s.library.interfaces.now)) same);
         };
         counted = refl;
       };

@@ -43,7 +43,7 @@ returns-clause-walks c = λ begun past standings phase stands.
       state = stands.walks.state;
       carrier = carries.1.stands;
       standing = rw c.open_next.ensures.same (length-standings phase.work.published standings phase.work.hand_ins hand_ins ∙ stands.walks.standing);
-      interfaces = rw c.open_next.ensures.same stands.walks.interfaces;
+      library = rw c.open_next.ensures.same stands.walks.interfaces;
       waiting = stands.walks.waiting;
     }
 
