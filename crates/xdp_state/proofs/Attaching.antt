@@ -1,17 +1,20 @@
 -- A state before any change, and what its functions make of one hook.
-use Rattle.std.proofs.Common.{◌≡◌, ℕ, zero, suc, ◌+◌, ◌<◌, ◌×◌, Bool, true, false, not, cond, ◌&&◌, nat_lt, List, [], ◌∷◌, ◌++◌, length, map, replicate, refl, sym, ap, ◌∙◌, subst, slice_get, slice_set, Some, Result, Ok, Err, OnOk, OnErr, IsErr, ◌↔◌, arith}
-use Rattle.std.specs.Prelude.{◌==◌, filter, insert, count_by}
+use Rattle.std.proofs.Common.{◌≡◌, ℕ, zero, suc, ◌+◌, ◌<◌, Bool, true, false, not, cond, ◌&&◌, nat_lt, List, [], ◌∷◌, ◌++◌, length, map, replicate, refl, sym, ap, ◌∙◌, inl, inr, subst, slice_get, slice_set, Some, Result, Ok, Err, OnOk, OnErr, IsErr, ◌↔◌, arith}
+use Rattle.std.specs.Prelude.{◌==◌, filter, insert, count_by, slice_index_or}
 use Rattle.std.specs.List.{list_any}
 use Rattle.std.specs.Bool.{then_some}
+use Rattle.std.proofs.lemmas.Bool.{cases_Bool}
 use Rattle.std.proofs.lemmas.Bool.Decides.{nat_tests}
+use Rattle.std.proofs.lemmas.Option.{slice_get_read}
 use Rattle.chain_order.specs.Chain.{IsChain, without}
 use Rattle.chain_order.specs.Member.{has_number}
 use Rattle.chain_order.specs.Sorted.{by_key}
 use Rattle.chain_order.specs.declared.member.Kind.{Kind}
 use Rattle.chain_order.specs.declared.member.Member.{Member}
 use Rattle.chain_order.proofs.Chains.{count-cons}
+use Rattle.filter_rules.specs.declared.rule.RuleRow.{RuleRow}
 use Rattle.xdp_state.specs.Book.{Book, empty, has_place}
-use Rattle.xdp_state.specs.Members.{chain_on, differs, has_filter, is_filter, members_off, members_without, mode_on}
+use Rattle.xdp_state.specs.Members.{Attached, chain_on, differs, has_filter, is_filter, members_off, members_without, mode_on}
 use Rattle.xdp_state.specs.State.{IsWhole, attached_at, attached_from, in_order, view_of}
 use Rattle.xdp_state.specs.declared.hook.Hook.{Hook}
 use Rattle.xdp_state.specs.declared.mode.Mode.{Mode}
@@ -56,8 +59,8 @@ whole-new s hooks count =
       count = omega arith;
     }
 
-pub view-new : (s : Inside) → s.hooks.items ≡ replicate 8 first_hook → s.rules ≡ [] → s.count ≡ 0 → view_of s ≡ empty
-view-new s hooks rules count = rw (count, rules, in_order-new s.hooks.items hooks) refl
+pub view-new : (hooks : List Hook) (rules : List RuleRow) → hooks ≡ replicate 8 first_hook → rules ≡ [] → record { members = in_order (attached_from 0 hooks) 0; rows = rules; count = 0 } ≡ empty
+view-new hooks rules is none = rw (none, in_order-new hooks is) refl
 
 -- a state of the same hooks
 pub whole-same : (s t : Inside) → IsWhole s → t.hooks.items ≡ s.hooks.items → t.count ≡ s.count → IsWhole t
@@ -71,7 +74,7 @@ whole-same s t whole hooks count = record {
 -- a mode where there is a member
 pub then_mode : (chain : List Member) (mode : Mode) → then_some (nat_lt 0 (length chain)) mode ≡ mode_if chain mode
 then_mode [] mode = refl
-then_mode (m ∷ ms) mode = refl
+then_mode (m ∷ ms) mode = let some : nat_lt 0 (length (m ∷ ms)) ≡ true = grind (arith, nat_tests) in rw some refl
 
 -- what a place for a member means for its hook
 parts : (a b c : Bool) → (a && not b && not c) ≡ true → (a ≡ true) × (b ≡ false)
@@ -96,21 +99,18 @@ has_room (Ok a) long full room ok = ok
 has_room (Err b) long full room ok = absurd (let many : long ≡ 10 = full.0 refl in omega arith)
 
 -- the state with one more member
-pub record Attach (s t : Inside) (interface : ℕ) (mode : Mode) (member : Member) (place : ℕ) (hook new : Hook) : Type 0 where
+pub record Attach (s : Inside) (interface : ℕ) (mode : Mode) (member : Member) (place : ℕ) (hook new : Hook) : Type 0 where
   pub joins : Joins s interface mode member place hook new
   pub few : s.count < 65536
-  pub hooks : t.hooks.items ≡ slice_set s.hooks.items interface new
-  pub count : t.count ≡ s.count + 1
-  pub rules : t.rules ≡ s.rules
   pub chain : (members : List Member) → IsChain members hook.chain → IsChain (members ++ member ∷ []) new.chain
 
-pub whole-attach : (s t : Inside) (interface : ℕ) (mode : Mode) (member : Member) (place : ℕ) (hook new : Hook) → Attach s t interface mode member place hook new → IsWhole t
-whole-attach s t interface mode member place hook new a = whole-joined s t interface mode member place hook new a.joins a.few a.hooks a.count a.chain
+pub whole-attach : (s t : Inside) (interface : ℕ) (mode : Mode) (member : Member) (place : ℕ) (hook new : Hook) → Attach s interface mode member place hook new → t.hooks.items ≡ slice_set s.hooks.items interface new → t.count ≡ s.count + 1 → IsWhole t
+whole-attach s t interface mode member place hook new a hooks count = whole-joined s t interface mode member place hook new a.joins a.few hooks count a.chain
 
-pub view-attach : (s t : Inside) (interface : ℕ) (mode : Mode) (member : Member) (place : ℕ) (hook new : Hook) → Attach s t interface mode member place hook new
-    → view_of t ≡ record (view_of s) { members = (view_of s).members ++ placed interface mode member ∷ []; count = s.count + 1 }
-view-attach s t interface mode member place hook new a =
-    rw (a.rules, a.count, a.hooks, in_order-joined s interface mode member place hook new a.joins) refl
+pub view-attach : (s : Inside) (interface : ℕ) (mode : Mode) (member : Member) (place : ℕ) (hook new : Hook) (hooks : List Hook) → Attach s interface mode member place hook new → hooks ≡ slice_set s.hooks.items interface new
+    → record { members = in_order (attached_from 0 hooks) (s.count + 1); rows = s.rules; count = s.count + 1 } ≡ record (view_of s) { members = (view_of s).members ++ placed interface mode member ∷ []; count = s.count + 1 }
+view-attach s interface mode member place hook new hooks a is =
+    rw (is, in_order-joined s interface mode member place hook new a.joins) refl
 
 -- members that no test finds
 abbrev bit : Bool → ℕ
@@ -118,24 +118,27 @@ bit b = cond b 1 0
 
 count-none : (p : Member → Bool) (xs : List Member) → list_any p xs ≡ false → count_by p xs ≡ 0
 count-none p [] none = refl
-count-none p (x ∷ xs) none = by (p x) refl where
-  by : (b : Bool) → p x ≡ b → count_by p (x ∷ xs) ≡ 0
-  by true h = absurd (let some = rw h at none in cc)
-  by false h = let first : bit (p x) ≡ 0 = ap bit h in omega (arith, count-cons p x xs, first, count-none p xs (rw h at none))
+count-none p (x ∷ xs) none =
+    elim (cases_Bool (p x)) [
+      | inl h ↦ absurd (let some = rw h at none in cc)
+      | inr h ↦ let first : bit (p x) ≡ 0 = ap bit h in omega (arith, count-cons p x xs, first, count-none p xs (rw h at none))
+    ]
 
 none-count : (p : Member → Bool) (xs : List Member) → count_by p xs ≡ 0 → list_any p xs ≡ false
 none-count p [] none = refl
-none-count p (x ∷ xs) none = by (p x) refl where
-  by : (b : Bool) → p x ≡ b → list_any p (x ∷ xs) ≡ false
-  by true h = absurd (let first : bit (p x) ≡ 1 = ap bit h in omega (arith, count-cons p x xs, first, none))
-  by false h = rw h (none-count p xs (omega (arith, count-cons p x xs, none)))
+none-count p (x ∷ xs) none =
+    elim (cases_Bool (p x)) [
+      | inl h ↦ absurd (let first : bit (p x) ≡ 1 = ap bit h in omega (arith, count-cons p x xs, first, none))
+      | inr h ↦ rw h (none-count p xs (omega (arith, count-cons p x xs, none)))
+    ]
 
 without-none : (number : ℕ) (xs : List Member) → has_number xs number ≡ false → without number xs ≡ xs
 without-none number [] none = refl
-without-none number (x ∷ xs) none = by (x.number == number) refl where
-  by : (b : Bool) → (x.number == number) ≡ b → without number (x ∷ xs) ≡ x ∷ xs
-  by true h = absurd (let some = rw h at none in cc)
-  by false h = rw h (ap (λ ys. x ∷ ys) (without-none number xs (rw h at none)))
+without-none number (x ∷ xs) none =
+    elim (cases_Bool (x.number == number)) [
+      | inl h ↦ absurd (let some = rw h at none in cc)
+      | inr h ↦ rw h (ap (λ ys. x ∷ ys) (without-none number xs (rw h at none)))
+    ]
 
 -- what a remove leaves, whether there is the number or not
 pub taken : {A B : Type 0} (r : Result A B) (number : ℕ) (old new : List Member) → OnOk r (new ≡ without number old) → (IsErr r ↔ (has_number old number ≡ false)) → OnErr r (new ≡ old) → new ≡ without number old
@@ -150,18 +153,17 @@ taken_chain (Err b) number members old new ok none err is =
     rw (err, without-none number members gone) is
 
 -- the state without some members of one interface
-pub record Detach (s t : Inside) (interface : ℕ) (leaves : Member → Bool) (hook new : Hook) : Type 0 where
+pub record Detach (s : Inside) (interface : ℕ) (leaves : Member → Bool) (hook new : Hook) : Type 0 where
   pub leave : Leaves s interface leaves hook new
   pub few : s.count < 65536
-  pub hooks : t.hooks.items ≡ slice_set s.hooks.items interface new
-  pub count : t.count ≡ s.count + 1
   pub chain : (members : List Member) → IsChain members hook.chain → IsChain (filter (λ m. not (leaves m)) members) new.chain
 
-pub whole-detach : (s t : Inside) (interface : ℕ) (leaves : Member → Bool) (hook new : Hook) → Detach s t interface leaves hook new → IsWhole t
-whole-detach s t interface leaves hook new d = whole-left s t interface leaves hook new d.leave d.few d.hooks d.count d.chain
+pub whole-detach : (s t : Inside) (interface : ℕ) (leaves : Member → Bool) (hook new : Hook) → Detach s interface leaves hook new → t.hooks.items ≡ slice_set s.hooks.items interface new → t.count ≡ s.count + 1 → IsWhole t
+whole-detach s t interface leaves hook new d hooks count = whole-left s t interface leaves hook new d.leave d.few hooks count d.chain
 
-pub members-detach : (s t : Inside) (interface : ℕ) (leaves : Member → Bool) (hook new : Hook) → Detach s t interface leaves hook new → (view_of t).members ≡ filter (stays interface leaves) (view_of s).members
-members-detach s t interface leaves hook new d = rw (d.hooks, d.count) (in_order-left s interface leaves hook new d.leave)
+pub view-detach : (s : Inside) (interface : ℕ) (leaves : Member → Bool) (hook new : Hook) (hooks : List Hook) (rows left : List RuleRow) → Detach s interface leaves hook new → hooks ≡ slice_set s.hooks.items interface new → rows ≡ left
+    → record { members = in_order (attached_from 0 hooks) (s.count + 1); rows = rows; count = s.count + 1 } ≡ (let book : Book = record { members = filter (stays interface leaves) (view_of s).members; rows = left; count = s.count + 1 } in book)
+view-detach s interface leaves hook new hooks rows left d is same = rw (is, same, in_order-left s interface leaves hook new d.leave) refl
 
 -- the member of a number, and all members
 pub leave-number : (s : Inside) (interface number : ℕ) (hook : Hook) (chain : List Member) → IsWhole s → slice_get s.hooks.items interface ≡ Some hook → chain ≡ without number hook.chain
@@ -182,5 +184,12 @@ leave-all s interface hook whole here = record {
 pub chain-all : (members chain : List Member) → IsChain members chain → IsChain (filter (λ m. not true) members) []
 chain-all members chain is = rw (none_stay members) no_chain
 
-pub members-all : (s t : Inside) (interface : ℕ) (hook : Hook) → Detach s t interface (λ m. true) hook first_hook → (view_of t).members ≡ members_off (view_of s).members interface
-members-all s t interface hook d = members-detach s t interface (λ m. true) hook first_hook d ∙ members_off-is (view_of s).members interface
+pub view-all : (s : Inside) (interface : ℕ) (hook : Hook) (hooks : List Hook) → Detach s interface (λ m. true) hook first_hook → hooks ≡ slice_set s.hooks.items interface first_hook
+    → record { members = in_order (attached_from 0 hooks) (s.count + 1); rows = s.rules; count = s.count + 1 } ≡ record (view_of s) { members = members_off (view_of s).members interface; count = s.count + 1 }
+view-all s interface hook hooks d is =
+    view-detach s interface (λ m. true) hook first_hook hooks s.rules s.rules d is refl
+    ∙ ap (λ (members : List Attached). record (view_of s) { members = members; count = s.count + 1 }) (members_off-is (view_of s).members interface)
+
+-- the hook that is lent
+pub hook_at : (s : Inside) (interface : ℕ) (hook : Hook) → IsWhole s → interface < 8 → hook ≡ slice_index_or s.hooks.items interface hook → slice_get s.hooks.items interface ≡ Some hook
+hook_at s interface hook whole below is = slice_get_read s.hooks.items 8 interface hook (sym whole.hooks) below is

@@ -1,6 +1,7 @@
 -- The members of hooks, as one of the hooks changes.
-use Rattle.std.proofs.Common.{◌≡◌, ℕ, zero, suc, ◌+◌, ◌<◌, Bool, true, false, not, cond, List, [], ◌∷◌, ◌++◌, map, refl, sym, ap, ◌∙◌, slice_get, slice_set, Some, arith}
+use Rattle.std.proofs.Common.{◌≡◌, ℕ, zero, suc, ◌+◌, ◌<◌, Bool, true, false, not, cond, List, [], ◌∷◌, ◌++◌, map, refl, sym, ap, ◌∙◌, inl, inr, slice_get, slice_set, Some, arith}
 use Rattle.std.specs.Prelude.{◌==◌, ◌&&◌, filter, insert}
+use Rattle.std.proofs.lemmas.Bool.{cases_Bool}
 use Rattle.std.proofs.lemmas.Bool.Decides.{nat_tests}
 use Rattle.std.proofs.lemmas.List.Elements.{filter-append}
 use Rattle.std.proofs.lemmas.Option.{same_Some}
@@ -103,10 +104,11 @@ pub filter-insert_one : {A : Type 0} (p : A → Bool) (f : Member → A) (ms : L
 filter-insert_one p f [] zero m holds none = rw holds refl
 filter-insert_one p f [] (suc place) m holds none = rw holds refl
 filter-insert_one p f (x ∷ ms) zero m holds none = rw holds (ap (λ ys. f m ∷ ys) none)
-filter-insert_one p f (x ∷ ms) (suc place) m holds none = by (p (f x)) refl where
-  by : (b : Bool) → p (f x) ≡ b → filter p (map f (insert (x ∷ ms) (suc place) m)) ≡ f m ∷ []
-  by true h = absurd (let some : filter p (map f (x ∷ ms)) ≡ [] = none in let more = rw h at some in cc)
-  by false h = rw h (filter-insert_one p f ms place m holds (rw h at none))
+filter-insert_one p f (x ∷ ms) (suc place) m holds none =
+    elim (cases_Bool (p (f x))) [
+      | inl h ↦ absurd (let some = rw h at none in cc)
+      | inr h ↦ rw h (filter-insert_one p f ms place m holds (rw h at none))
+    ]
 
 -- members that leave one interface
 stay-placed : (interface other : ℕ) (mode : Mode) (leaves : Member → Bool) (ms : List Member) → (other == interface) ≡ false → filter (stays interface leaves) (map (placed other mode) ms) ≡ map (placed other mode) ms
@@ -123,13 +125,12 @@ stay-from interface first leaves (hook ∷ hooks) below =
 
 pub leave-placed : (interface : ℕ) (mode : Mode) (leaves : Member → Bool) (ms : List Member) → filter (stays interface leaves) (map (placed interface mode) ms) ≡ map (placed interface mode) (filter (λ m. not (leaves m)) ms)
 leave-placed interface mode leaves [] = refl
-leave-placed interface mode leaves (m ∷ ms) = by (leaves m) refl where
-  here : (interface == interface) ≡ true
-  here = grind (arith, nat_tests)
-
-  by : (b : Bool) → leaves m ≡ b → filter (stays interface leaves) (map (placed interface mode) (m ∷ ms)) ≡ map (placed interface mode) (filter (λ m. not (leaves m)) (m ∷ ms))
-  by true h = rw (here, h) (leave-placed interface mode leaves ms)
-  by false h = rw (here, h) (ap (λ ys. placed interface mode m ∷ ys) (leave-placed interface mode leaves ms))
+leave-placed interface mode leaves (m ∷ ms) =
+    let here : (interface == interface) ≡ true = grind (arith, nat_tests) in
+    elim (cases_Bool (leaves m)) [
+      | inl h ↦ rw (here, h) (leave-placed interface mode leaves ms)
+      | inr h ↦ rw (here, h) (ap (λ ys. placed interface mode m ∷ ys) (leave-placed interface mode leaves ms))
+    ]
 
 pub attached-leave : (interface first place : ℕ) (leaves : Member → Bool) (hooks : List Hook) (hook new : Hook) → interface ≡ first + place → slice_get hooks place ≡ Some hook → attached_at interface new ≡ filter (stays interface leaves) (attached_at interface hook) → attached_from first (slice_set hooks place new) ≡ filter (stays interface leaves) (attached_from first hooks)
 attached-leave interface first place leaves [] hook new at is left = absurd cc

@@ -1,16 +1,17 @@
 -- What the questions of a command come to, and that what is accepted is taken.
-use Rattle.std.proofs.Common.{◌≡◌, ℕ, ◌<◌, ◌≤◌, true, false, Bool, not, nat_lt, nat_le, ◌==◌, ◌&&◌, ◌||◌, List, [], ◌∷◌, length, find, Option, Some, None, Result, refl, subst, arith}
+use Rattle.std.proofs.Common.{◌≡◌, ℕ, ◌<◌, ◌≤◌, true, false, Bool, not, nat_lt, nat_le, ◌==◌, ◌&&◌, ◌||◌, List, [], ◌∷◌, length, find, Option, Some, None, Result, refl, sym, ap, subst, if◌then◌else◌, arith}
 use Rattle.std.specs.List.{list_any, position, position_or_len}
 use Rattle.std.specs.Option.{unwrap_or, is_some}
-use Rattle.std.specs.Prelude.{slice_get}
+use Rattle.std.specs.Prelude.{slice_get, slice_index_or}
 use Rattle.std.proofs.lemmas.Bool.Decides.{nat_tests}
 use Rattle.std.proofs.lemmas.Grind.{common_steps}
+use Rattle.std.proofs.lemmas.Option.{slice_get_read}
 use Rattle.chain_order.specs.declared.member.Kind.{Kind}
 use Rattle.chain_order.specs.declared.member.Kind.TheVariants as kind
 use Rattle.filter_rules.specs.Rules.{has_row, has_rule}
 use Rattle.filter_rules.specs.declared.rule.RuleKey.{RuleKey}
 use Rattle.object_load.specs.declared.program.Program.{Program}
-use Rattle.xdp_state.specs.Answer.{answer, at_interface, attach_answer, clear_answer, filter_answer, filter_off_answer, first_of, lacks_feature, load_answer, load_change, loaded_at, object_answer, off_answer, off_change, program_answer, rule_fits, set_answer, status_answer, is_asked}
+use Rattle.xdp_state.specs.Answer.{answer, at_interface, attach_answer, clear_answer, filter_answer, filter_off_answer, first_of, has_asked, lacks_feature, load_answer, load_change, loaded_at, object_answer, off_answer, off_change, program_answer, rule_fits, set_answer, status_answer, is_asked}
 use Rattle.xdp_state.specs.Book.{Book, fits, has_own_flags, has_place, takes}
 use Rattle.xdp_state.specs.Interfaces.{has_name, is_declared, interface_named}
 use Rattle.xdp_state.specs.Library.{filter_name, rank}
@@ -24,8 +25,9 @@ use Rattle.xdp_state.specs.declared.interface.Interface.{Interface}
 use Rattle.xdp_state.specs.declared.judgement.Judgement.{Judgement}
 use Rattle.xdp_state.specs.declared.judgement.Judgement.TheVariants.{Accepted, Shown, Refused}
 use Rattle.xdp_state.specs.declared.judgement.Reason.{Reason}
-use Rattle.xdp_state.specs.declared.judgement.Reason.TheVariants.{FilterNotThere, FeatureMissing, RulesFull, NoSuchRule}
+use Rattle.xdp_state.specs.declared.judgement.Reason.TheVariants.{NoInterface, ModeDiffers, ChainFull, NothingLoaded, NoSuchId, FilterThere, FilterNotThere, FeatureMissing, RulesFull, NoSuchRule}
 use Rattle.xdp_state.specs.declared.library.Library.{Library}
+use Rattle.xdp_state.specs.declared.library.ObjectRow.{ObjectRow}
 use Rattle.xdp_state.specs.declared.library.Loaded.{Loaded}
 use Rattle.xdp_state.specs.declared.library.Loaded.TheVariants as loaded
 use Rattle.xdp_state.specs.declared.mode.Mode.{Mode}
@@ -58,10 +60,16 @@ passed : (holds : Bool) (reason : Reason) (rest : Judgement) (change : Change) �
 passed true reason rest change is = absurd cc
 passed false reason rest change is = record { none = refl; later = is }
 
--- the rest of the objections
-first_two : (a b : Bool) (r s : Reason) (rest : Judgement) → first_of (record { holds = a; reason = r } ∷ record { holds = b; reason = s } ∷ []) rest ≡ first_of (record { holds = a; reason = r } ∷ []) (first_of (record { holds = b; reason = s } ∷ []) rest)
-first_two true b r s rest = refl
-first_two false b r s rest = refl
+-- neither of two objections
+record PassedTwo (first second : Bool) (rest : Judgement) (change : Change) : Type 0 where
+  one : first ≡ false
+  other : second ≡ false
+  later : rest ≡ Accepted change
+
+passed_two : (a b : Bool) (r s : Reason) (rest : Judgement) (change : Change) → first_of (record { holds = a; reason = r } ∷ record { holds = b; reason = s } ∷ []) rest ≡ Accepted change → PassedTwo a b rest change
+passed_two true b r s rest change is = absurd cc
+passed_two false true r s rest change is = absurd cc
+passed_two false false r s rest change is = record { one = refl; other = refl; later = is }
 
 accepted_same : (a b : Change) → Accepted a ≡ Accepted b → a ≡ b
 accepted_same a b same = cc
@@ -79,26 +87,25 @@ record AtInterface (library : Library) (name : List ℕ) (judged : ℕ → Judge
 
 at_interface-accepted : (library : Library) (name : List ℕ) (judged : ℕ → Judgement) (change : Change) → length library.interfaces ≤ 8 → at_interface library name judged ≡ Accepted change → AtInterface library name judged change
 at_interface-accepted library name judged change few is =
-    let h = passed (not (is_declared library.interfaces name)) _ (judged (interface_named library.interfaces name)) change is in
+    let h = passed (not (is_declared library.interfaces name)) NoInterface (judged (interface_named library.interfaces name)) change is in
     record { below = named-below library name few h.none; there = h.later }
 
 -- an interface that takes a member of a mode
 record Takes (book : Book) (interface : ℕ) (mode : Mode) (asked change : Change) : Type 0 where
-  mode : differs (mode_on book.members interface) mode ≡ false
+  fits : differs (mode_on book.members interface) mode ≡ false
   room : nat_lt (length (chain_on book.members interface)) 10 ≡ true
-  change : asked ≡ change
+  is : asked ≡ change
 
 attach-accepted : (book : Book) (interface : ℕ) (mode : Mode) (asked change : Change) → attach_answer book interface mode asked ≡ Accepted change → Takes book interface mode asked change
 attach-accepted book interface mode asked change is =
-    let one = passed (differs (mode_on book.members interface) mode) _ _ change (subst (λ j. j ≡ Accepted change) (first_two _ _ _ _ (Accepted asked)) is) in
-    let two = passed (nat_le 10 (length (chain_on book.members interface))) _ (Accepted asked) change one.later in
-    record { mode = one.none; room = (let full = two.none in grind (arith, nat_tests)); change = accepted_same asked change two.later }
+    let h = passed_two (differs (mode_on book.members interface) mode) (nat_le 10 (length (chain_on book.members interface))) ModeDiffers ChainFull (Accepted asked) change is in
+    record { fits = h.one; room = (let full = h.other in grind (arith, nat_tests)); is = accepted_same asked change h.later }
 
 attach-taken : (book : Book) (interface priority rank mask : ℕ) (k : Kind) (mode : Mode) (change : Change) → nat_lt book.count 65536 ≡ true → nat_lt interface 8 ≡ true → (is_filter k && has_filter (chain_on book.members interface)) ≡ false
     → attach_answer book interface mode (Attach interface k priority rank mask mode) ≡ Accepted change → takes book change ≡ true
 attach-taken book interface priority rank mask k mode change count below alone is =
     let h = attach-accepted book interface mode (Attach interface k priority rank mask mode) change is in
-    subst (λ change. takes book change ≡ true) h.change (rw (count, below, h.room, h.mode, alone) refl)
+    subst (λ change. takes book change ≡ true) h.is (rw (count, below, h.room, h.fits, alone) refl)
 
 program-taken : (library : Library) (book : Book) (interface : ℕ) (words : LoadWords) (place : ℕ) (o : Option Program) (change : Change) → nat_lt book.count 65536 ≡ true → nat_lt interface 8 ≡ true → program_answer library book interface words place o ≡ Accepted change → takes book change ≡ true
 program-taken library book interface words place None change count below is = absurd cc
@@ -114,7 +121,7 @@ object-taken library book interface words (Some (loaded.Programs programs)) chan
 
 load-taken : (library : Library) (book : Book) (words : LoadWords) (change : Change) → nat_lt book.count 65536 ≡ true → length library.interfaces ≤ 8 → load_answer library book words ≡ Accepted change → takes book change ≡ true
 load-taken library book words change count few is =
-    let h = at_interface-accepted library words.interface _ change few is in
+    let h = at_interface-accepted library words.interface (λ interface. object_answer library book interface words (loaded_at library words.object)) change few is in
     object-taken library book (interface_named library.interfaces words.interface) words (loaded_at library words.object) change count h.below h.there
 
 off-change : (book : Book) (interface : ℕ) (id : Option ℕ) (change : Change) → nat_lt book.count 65536 ≡ true → nat_lt interface 8 ≡ true → off_change interface id ≡ change → takes book change ≡ true
@@ -123,23 +130,23 @@ off-change book interface (Some id) change count below is = subst (λ change. ta
 
 off-taken : (library : Library) (book : Book) (name : List ℕ) (id : Option ℕ) (change : Change) → nat_lt book.count 65536 ≡ true → length library.interfaces ≤ 8 → at_interface library name (λ interface. off_answer book interface id) ≡ Accepted change → takes book change ≡ true
 off-taken library book name id change count few is =
-    let h = at_interface-accepted library name _ change few is in
+    let h = at_interface-accepted library name (λ interface. off_answer book interface id) change few is in
     let interface : ℕ = interface_named library.interfaces name in
-    let one = passed _ _ _ change (subst (λ j. j ≡ Accepted change) (first_two _ _ _ _ (Accepted (off_change interface id))) h.there) in
-    let two = passed _ _ (Accepted (off_change interface id)) change one.later in
-    off-change book interface id change count h.below (accepted_same _ change two.later)
+    let chain = chain_on book.members interface in
+    let two = passed_two (length chain == 0) (not (has_asked chain id)) NothingLoaded NoSuchId (Accepted (off_change interface id)) change h.there in
+    off-change book interface id change count h.below (accepted_same (off_change interface id) change two.later)
 
 status-taken : (library : Library) (name : Option (List ℕ)) (change : Change) → status_answer library name ≡ Accepted change → ⊥
 status-taken library None change is = cc
 status-taken library (Some name) change is =
-    let h = passed (not (is_declared library.interfaces name)) _ Shown change is in
+    let h = passed (not (is_declared library.interfaces name)) NoInterface Shown change is in
     let shown = h.later in cc
 
 filter-taken : (library : Library) (book : Book) (name : List ℕ) (k : Kind) (mode : Mode) (change : Change) → nat_lt book.count 65536 ≡ true → length library.interfaces ≤ 8 → at_interface library name (filter_answer library book k mode) ≡ Accepted change → takes book change ≡ true
 filter-taken library book name k mode change count few is =
-    let h = at_interface-accepted library name _ change few is in
+    let h = at_interface-accepted library name (filter_answer library book k mode) change few is in
     let interface : ℕ = interface_named library.interfaces name in
-    let one = passed (has_filter (chain_on book.members interface)) _ _ change h.there in
+    let one = passed (has_filter (chain_on book.members interface)) FilterThere (attach_answer book interface mode (Attach interface k 10 (rank library filter_name) 4 mode)) change h.there in
     attach-taken book interface 10 (rank library filter_name) 4 k mode change count h.below (none_both (is_filter k) _ one.none) one.later
   where
     none_both : (a b : Bool) → b ≡ false → (a && b) ≡ false
@@ -148,15 +155,19 @@ filter-taken library book name k mode change count few is =
 
 filter_off-taken : (library : Library) (book : Book) (name : List ℕ) (keep : Bool) (change : Change) → nat_lt book.count 65536 ≡ true → length library.interfaces ≤ 8 → at_interface library name (filter_off_answer book keep) ≡ Accepted change → takes book change ≡ true
 filter_off-taken library book name keep change count few is =
-    let h = at_interface-accepted library name _ change few is in
-    let one = passed _ _ _ change h.there in
-    subst (λ change. takes book change ≡ true) (accepted_same _ change one.later) (let below = h.below in rw (count, below) refl)
+    let h = at_interface-accepted library name (filter_off_answer book keep) change few is in
+    let interface : ℕ = interface_named library.interfaces name in
+    let chain = chain_on book.members interface in
+    let asked : Change = Detach interface (filter_number chain) (not keep && not (has_filter_elsewhere book.members interface)) in
+    let one = passed (not (has_filter chain)) FilterNotThere (Accepted asked) change h.there in
+    let below = h.below in
+    subst (λ change. takes book change ≡ true) (accepted_same asked change one.later) (rw (count, below) refl)
 
 set-taken : (book : Book) (key : RuleKey) (flags : ℕ) (change : Change) → nat_lt book.count 65536 ≡ true → has_own_flags key flags ≡ true → set_answer book key flags ≡ Accepted change → takes book change ≡ true
 set-taken book key flags change count own is =
     let h = three (not (has_filter_somewhere book.members)) (lacks_feature book.members key.kind flags) (not (has_row book.rows key) && nat_le 4096 (length book.rows)) FilterNotThere FeatureMissing RulesFull (SetRule key flags) change is in
     let place : (has_row book.rows key || nat_lt (length book.rows) 4096) ≡ true = (let full = h.none in grind (arith, nat_tests)) in
-    subst (λ change. takes book change ≡ true) (accepted_same _ change h.later) (rw (count, own, place) refl)
+    subst (λ change. takes book change ≡ true) (accepted_same (SetRule key flags) change h.later) (rw (count, own, place) refl)
   where
     three : (a b c : Bool) (r s t : Reason) (asked change : Change) → first_of (record { holds = a; reason = r } ∷ record { holds = b; reason = s } ∷ record { holds = c; reason = t } ∷ []) (Accepted asked) ≡ Accepted change → Passed c (Accepted asked) change
     three true b c r s t asked change is = absurd cc
@@ -165,9 +176,8 @@ set-taken book key flags change count own is =
 
 clear-taken : (book : Book) (key : RuleKey) (flags : ℕ) (change : Change) → nat_lt book.count 65536 ≡ true → has_own_flags key flags ≡ true → clear_answer book key flags ≡ Accepted change → takes book change ≡ true
 clear-taken book key flags change count own is =
-    let one = passed _ _ _ change (subst (λ j. j ≡ Accepted change) (first_two (not (has_filter_somewhere book.members)) (not (has_rule book.rows key flags)) FilterNotThere NoSuchRule (Accepted (ClearRule key flags))) is) in
-    let two = passed _ _ (Accepted (ClearRule key flags)) change one.later in
-    subst (λ change. takes book change ≡ true) (accepted_same _ change two.later) (rw (count, own) refl)
+    let two = passed_two (not (has_filter_somewhere book.members)) (not (has_rule book.rows key flags)) FilterNotThere NoSuchRule (Accepted (ClearRule key flags)) change is in
+    subst (λ change. takes book change ≡ true) (accepted_same (ClearRule key flags) change two.later) (rw (count, own) refl)
 
 pub answer-taken : (library : Library) (book : Book) (command : Command) (change : Change) → rule_fits command ≡ true → length library.interfaces ≤ 8 → answer library book command ≡ Accepted change → book.count < 65536 → takes book change ≡ true
 answer-taken library book (LoaderLoad words) change fits few is room = load-taken library book words change (grind (arith, nat_tests)) few is
@@ -178,3 +188,23 @@ answer-taken library book (FilterUnload name keep) change fits few is room = fil
 answer-taken library book (FilterRule key flags true) change fits few is room = clear-taken book key flags change (grind (arith, nat_tests)) fits is
 answer-taken library book (FilterRule key flags false) change fits few is room = set-taken book key flags change (grind (arith, nat_tests)) fits is
 answer-taken library book FilterStatus change fits few is room = absurd cc
+
+-- the interface of a name that is declared
+found_case : (b : Bool) (named i : ℕ) (judged : ℕ → Judgement) → Some i ≡ (if b then Some named else None) → first_of (record { holds = not b; reason = NoInterface } ∷ []) (judged named) ≡ judged i
+found_case true named i judged is = let same : named ≡ i = cc in ap judged same
+found_case false named i judged is = absurd cc
+
+pub found_at : (library : Library) (name : List ℕ) (judged : ℕ → Judgement) (i : ℕ) → Some i ≡ (if is_declared library.interfaces name then Some (interface_named library.interfaces name) else None) → at_interface library name judged ≡ judged i
+found_at library name judged i is = found_case (is_declared library.interfaces name) (interface_named library.interfaces name) i judged is
+
+-- a load of the first program that is asked for
+asked-within : {X : Type 0} (p : X → Bool) (xs : List X) (place : ℕ) → Some place ≡ position p xs → place < length xs
+asked-within p xs place is = grind (arith, nat_tests)
+
+pub asked-there : (words : LoadWords) (programs : List Program) (place : ℕ) (program : Program) → Some place ≡ position (is_asked words) programs → program ≡ slice_index_or programs place program → slice_get programs place ≡ Some program
+asked-there words programs place program asked at = slice_get_read programs (length programs) place program refl (asked-within (is_asked words) programs place asked) at
+
+pub loads : (library : Library) (book : Book) (interface : ℕ) (words : LoadWords) (row : ObjectRow) (programs : List Program) (place : ℕ) (program : Program) → slice_get library.objects words.object ≡ Some row → row.loaded ≡ loaded.Programs programs
+    → Some place ≡ position (is_asked words) programs → program ≡ slice_index_or programs place program
+    → object_answer library book interface words (loaded_at library words.object) ≡ attach_answer book interface words.mode (load_change library interface words place program)
+loads library book interface words row programs place program here is asked at = rw (here, is, ← asked, asked-there words programs place program asked at) refl

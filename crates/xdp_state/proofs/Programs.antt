@@ -78,6 +78,22 @@ programs_of-take (o ∷ objects) (suc place) object is =
     ap (λ ps. programs_in o.loaded ++ ps) (programs_of-take objects place object is)
     ∙ sym (append_assoc (programs_in o.loaded) (programs_of (take place objects)) (programs_in object.loaded))
 
+-- the programs of the first objects, and of one behind them, are among all
+pub few_taken : (objects : List ObjectRow) (first : ℕ) → length (programs_of (take first objects)) ≤ length (programs_of objects)
+few_taken [] zero = omega arith
+few_taken [] (suc first) = omega arith
+few_taken (o ∷ objects) zero = omega arith
+few_taken (o ∷ objects) (suc first) =
+    let some = length-append (programs_in o.loaded) (programs_of (take first objects)) in
+    let all = length-append (programs_in o.loaded) (programs_of objects) in
+    omega (arith, some, all, few_taken objects first)
+
+pub with_next : (objects : List ObjectRow) (place : ℕ) (object : ObjectRow) → slice_get objects place ≡ Some object → length (programs_of (take place objects)) + length (programs_in object.loaded) ≤ length (programs_of objects)
+with_next objects place object is =
+    let next = ap length (programs_of-take objects place object is) in
+    let both = length-append (programs_of (take place objects)) (programs_in object.loaded) in
+    omega (arith, next, both, few_taken objects (suc place))
+
 -- a library with one more object
 pub sound-push : (library : Library) (object : ObjectRow) → IsSound library → length (programs_of library.objects) + length (programs_in object.loaded) ≤ 4294967295 → All IsRunnable (programs_in object.loaded)
     → IsSound (record library { objects = library.objects ++ object ∷ [] })

@@ -1,24 +1,30 @@
 -- The maps of members: which are made, and which a run changes.
-use Rattle.std.proofs.Common.{◌≡◌, ◌↔◌, ℕ, zero, suc, ◌+◌, Bool, true, false, cond, ◌&&◌, ◌||◌, List, [], ◌∷◌, ◌++◌, length, refl, sym, ap, ◌∙◌, subst, Option, Some, None, slice_get, slice_set, take, nat_eq, nat_lt, get_or, ◌≤◌, ⊥, arith}
-use Rattle.std.specs.Prelude.{◌==◌, IsTrue, if◌then◌else◌}
+use Rattle.std.proofs.Common.{◌≡◌, ◌↔◌, ℕ, zero, suc, ◌+◌, Bool, true, false, cond, ◌&&◌, ◌||◌, List, [], ◌∷◌, ◌++◌, length, refl, sym, ap, ◌∙◌, subst, Option, Some, None, slice_get, slice_set, drop, take, nat_eq, nat_lt, get_or, ◌≤◌, add-one, arith}
+use Rattle.std.specs.Prelude.{◌==◌, ◌<◌, IsTrue, if◌then◌else◌}
 use Rattle.std.specs.List.{list_all, list_any, position, position_or_len, cons_option, AllByRecursion}
 use Rattle.std.specs.Cmp.Lexicographic.{pointwise, pointwise_decides, bytes_decides}
 use Rattle.std.proofs.lemmas.Bool.{and_parts, or_left, or_right}
 use Rattle.std.proofs.lemmas.Bool.Decides.{nat_tests}
-use Rattle.std.proofs.lemmas.List.{length-map}
+use Rattle.std.proofs.lemmas.List.{append-nil, length-map}
 use Rattle.std.proofs.lemmas.List.Folds.{find_at}
 use Rattle.std.proofs.lemmas.List.Quantifiers.{position-Some}
 use Rattle.std.proofs.lemmas.Option.{none-some, same_Some, slice_get_past, slice_get_read}
 use Rattle.chain_order.specs.Ordered.{IsBehind, IsOrdered}
+use Rattle.chain_order.specs.declared.member.Kind.{Kind}
+use Rattle.chain_order.specs.declared.member.Kind.TheVariants as kind
 use Rattle.chain_order.specs.declared.member.Member.{Member}
 use Rattle.map_store.specs.Slots.{Map}
 use Rattle.map_store.specs.declared.spec.MapKind.{MapKind}
 use Rattle.map_store.specs.declared.spec.MapKind.TheVariants.{Hash, Array, PercpuHash, PercpuArray}
 use Rattle.map_store.specs.declared.spec.MapSpec.{MapSpec}
+use Rattle.object_load.specs.Load.{IsRunnable}
 use Rattle.object_load.specs.declared.program.Program.{Program}
 use Rattle.run_config.specs.Maps.{specs_of}
-use Rattle.xdp_state.specs.Stores.{AreReady, HasMaps, MemberMaps, entering, entering_as, entry_of, first_maps, is_made_for, is_ready, is_ready_as, kind_number, maps_of, prepared, program_of, same_spec, same_specs, staying, suits, with_maps}
+use Rattle.run_config.specs.declared.named_map.NamedMap.{NamedMap}
+use Rattle.xdp_state.specs.Stores.{AreReady, HasMaps, MemberMaps, entering, entering_as, entry_of, first_maps, is_made_for, is_ready, is_ready_as, kind_number, maps_of, prepared, program_as, program_of, same_spec, same_specs, staying, suits, with_maps}
+use Rattle.xdp_state.specs.Library.{IsSound}
 use Rattle.xdp_state.specs.declared.library.Library.{Library}
+use Rattle.xdp_state.proofs.Programs.{runnable_at}
 
 -- equal specs pass the test, and no others
 kind_is : (k l : MapKind) → (kind_number k == kind_number l) ≡ true → k ≡ l
@@ -71,6 +77,31 @@ specs_are specs others same = (pointwise_decides spec_decides specs others).0 sa
 pub specs_itself : (specs : List MapSpec) → same_specs specs specs ≡ true
 specs_itself specs = (pointwise_decides spec_decides specs specs).1 refl
 
+-- specs from a place on
+pub same-step : (specs : List MapSpec) (maps : List NamedMap) (place : ℕ) (spec : MapSpec) (map : NamedMap) → slice_get specs place ≡ Some spec → slice_get maps place ≡ Some map
+    → same_specs (drop place specs) (specs_of (drop place maps)) ≡ (same_spec spec map.spec && same_specs (drop (suc place) specs) (specs_of (drop (suc place) maps)))
+same-step [] maps place spec map is other = absurd cc
+same-step (s ∷ specs) [] place spec map is other = absurd cc
+same-step (s ∷ specs) (m ∷ maps) zero spec map is other =
+    let one : s ≡ spec = cc in
+    let two : m ≡ map = cc in
+    rw (one, two) refl
+same-step (s ∷ specs) (m ∷ maps) (suc place) spec map is other = same-step specs maps place spec map is other
+
+same-here : (specs : List MapSpec) (maps : List NamedMap) (place : ℕ) (spec : MapSpec) (map : NamedMap) → length specs ≡ length maps → place < length specs → spec ≡ get_or specs place spec → map ≡ get_or maps place map
+    → same_specs (drop place specs) (specs_of (drop place maps)) ≡ (same_spec spec map.spec && same_specs (drop (place + 1) specs) (specs_of (drop (place + 1) maps)))
+same-here specs maps place spec map long below is other =
+    rw add-one (same-step specs maps place spec map (slice_get_read specs (length specs) place spec refl below is) (slice_get_read maps (length maps) place map refl (omega arith) other))
+
+pub same-length : (specs : List MapSpec) (maps : List NamedMap) → same_specs specs (specs_of maps) ≡ true → length specs ≡ length maps
+same-length specs maps same = ap length (specs_are specs (specs_of maps) same) ∙ length-map maps (λ one. one.spec)
+
+pub length_apart : (specs : List MapSpec) (maps : List NamedMap) → (length specs ≡ length maps → ⊥) → same_specs specs (specs_of maps) ≡ false
+length_apart specs maps apart = by (same_specs specs (specs_of maps)) refl where
+  by : (b : Bool) → same_specs specs (specs_of maps) ≡ b → b ≡ false
+  by true h = absurd (apart (same-length specs maps h))
+  by false h = refl
+
 bool_same : (a b : Bool) → (a ≡ true → b ≡ true) → (b ≡ true → a ≡ true) → a ≡ b
 bool_same true b there back = sym (there refl)
 bool_same false true there back = absurd (let h : false ≡ true = back refl in cc)
@@ -80,15 +111,47 @@ bool_same false false there back = refl
 pub spec_test : (one other : MapSpec) (r : Bool) → (IsTrue r ↔ (one ≡ other)) → r ≡ same_spec one other
 spec_test one other r is = bool_same r (same_spec one other) (λ h. (spec_decides one other).1 (is.0 h)) (λ h. is.1 ((spec_decides one other).0 h))
 
+-- the specs at a place differ, or the rest decides
+pub same-differs : (specs : List MapSpec) (maps : List NamedMap) (place : ℕ) (spec : MapSpec) (map : NamedMap) (r : Bool) → length specs ≡ length maps → place < length specs → spec ≡ get_or specs place spec → map ≡ get_or maps place map
+    → (IsTrue r ↔ (spec ≡ (get_or maps place map).spec)) → r ≡ false → same_specs (drop place specs) (specs_of (drop place maps)) ≡ false
+same-differs specs maps place spec map r long below is other test fails =
+    let tested : same_spec spec map.spec ≡ r = ap (λ (m : NamedMap). same_spec spec m.spec) other ∙ sym (spec_test spec (get_or maps place map).spec r test) in
+    same-here specs maps place spec map long below is other ∙ rw (tested, fails) refl
+
+pub same-goes : (specs : List MapSpec) (maps : List NamedMap) (place : ℕ) (spec : MapSpec) (map : NamedMap) (r : Bool) → length specs ≡ length maps → place < length specs → spec ≡ get_or specs place spec → map ≡ get_or maps place map
+    → (IsTrue r ↔ (spec ≡ (get_or maps place map).spec)) → r ≡ true → same_specs (drop place specs) (specs_of (drop place maps)) ≡ same_specs (drop (place + 1) specs) (specs_of (drop (place + 1) maps))
+same-goes specs maps place spec map r long below is other test goes =
+    let tested : same_spec spec map.spec ≡ r = ap (λ (m : NamedMap). same_spec spec m.spec) other ∙ sym (spec_test spec (get_or maps place map).spec r test) in
+    same-here specs maps place spec map long below is other ∙ rw (tested, goes) refl
+
 -- the maps for one more member
 pub entering-more : (library : Library) (chain : List Member) (stores : List MemberMaps) (place : ℕ) (member : Member) → slice_get chain place ≡ Some member
     → entering library (take (suc place) chain) stores ≡ entering library (take place chain) stores ++ cons_option (entering_as library stores member (program_of library member)) []
 entering-more library [] stores place member is = absurd cc
 entering-more library (m ∷ chain) stores zero member is = let same : m ≡ member = cc in rw same refl
-entering-more library (m ∷ chain) stores (suc place) member is = by (entering_as library stores m (program_of library m)) where
-  by : (o : Option MemberMaps) → cons_option o (entering library (take (suc place) chain) stores) ≡ cons_option o (entering library (take place chain) stores) ++ cons_option (entering_as library stores member (program_of library member)) []
-  by None = entering-more library chain stores place member is
-  by (Some entry) = ap (λ es. entry ∷ es) (entering-more library chain stores place member is)
+entering-more library (m ∷ chain) stores (suc place) member is = by (entering_as library stores m (program_of library m)) (entering-more library chain stores place member is) where
+  by : (o : Option MemberMaps) → entering library (take (suc place) chain) stores ≡ entering library (take place chain) stores ++ cons_option (entering_as library stores member (program_of library member)) [] → cons_option o (entering library (take (suc place) chain) stores) ≡ cons_option o (entering library (take place chain) stores) ++ cons_option (entering_as library stores member (program_of library member)) []
+  by None rest = rest
+  by (Some entry) rest = ap (λ es. entry ∷ es) rest
+
+pub entering-next : (library : Library) (chain : List Member) (stores : List MemberMaps) (place : ℕ) (member : Member) (o : Option MemberMaps) → slice_get chain place ≡ Some member → o ≡ entering_as library stores member (program_of library member)
+    → entering library (take (place + 1) chain) stores ≡ entering library (take place chain) stores ++ cons_option o []
+entering-next library chain stores place member o is made = rw (made, add-one) (entering-more library chain stores place member is)
+
+-- such a one is put behind the others, or there is none
+pub entered : (library : Library) (chain : List Member) (stores : List MemberMaps) (place : ℕ) (member : Member) (o : Option MemberMaps) (entry : MemberMaps) (made : List MemberMaps) → slice_get chain place ≡ Some member → o ≡ entering_as library stores member (program_of library member) → made ≡ entering library (take place chain) stores
+    → o ≡ Some entry → made ++ entry ∷ [] ≡ entering library (take (place + 1) chain) stores
+entered library chain stores place member o entry made is made_is so_far some =
+    rw so_far (ap (λ o. entering library (take place chain) stores ++ cons_option o []) (sym some) ∙ sym (entering-next library chain stores place member o is made_is))
+
+pub entered_none : (library : Library) (chain : List Member) (stores : List MemberMaps) (place : ℕ) (member : Member) (o : Option MemberMaps) (made : List MemberMaps) → slice_get chain place ≡ Some member → o ≡ entering_as library stores member (program_of library member) → made ≡ entering library (take place chain) stores
+    → o ≡ None → made ≡ entering library (take (place + 1) chain) stores
+entered_none library chain stores place member o made is made_is so_far none =
+    so_far ∙ sym (append-nil (entering library (take place chain) stores)) ∙ ap (λ o. entering library (take place chain) stores ++ cons_option o []) (sym none) ∙ sym (entering-next library chain stores place member o is made_is)
+
+pub runnable-as : (library : Library) (kind : Kind) (program : Program) → IsSound library → program_as library kind ≡ Some program → IsRunnable program
+runnable-as library (kind.Program number) program sound is = runnable_at library number program sound is
+runnable-as library (kind.Filter policy features) program sound is = absurd cc
 
 -- a run leaves all but the maps of one entry
 ready_kept : (program : Option Program) (entry : MemberMaps) (maps : List Map) → is_ready_as program (Some entry) ≡ is_ready_as program (Some (record entry { maps = maps }))
@@ -97,12 +160,12 @@ ready_kept (Some program) entry maps = refl
 
 entry-with_maps : (program : Option Program) (stores : List MemberMaps) (number other : ℕ) (maps : List Map) → is_ready_as program (entry_of (with_maps stores number maps) other) ≡ is_ready_as program (entry_of stores other)
 entry-with_maps program [] number other maps = refl
-entry-with_maps program (entry ∷ stores) number other maps = by (entry.number == number) (entry.number == other) refl refl where
-  by : (b c : Bool) → (entry.number == number) ≡ b → (entry.number == other) ≡ c → is_ready_as program (entry_of (with_maps (entry ∷ stores) number maps) other) ≡ is_ready_as program (entry_of (entry ∷ stores) other)
-  by true true here there = rw (here, there) (sym (ready_kept program entry maps))
-  by true false here there = rw (here, there) refl
-  by false true here there = rw (here, there) refl
-  by false false here there = rw (here, there) (entry-with_maps program stores number other maps)
+entry-with_maps program (entry ∷ stores) number other maps = by (entry.number == number) (entry.number == other) refl refl (entry-with_maps program stores number other maps) where
+  by : (b c : Bool) → (entry.number == number) ≡ b → (entry.number == other) ≡ c → is_ready_as program (entry_of (with_maps stores number maps) other) ≡ is_ready_as program (entry_of stores other) → is_ready_as program (entry_of (with_maps (entry ∷ stores) number maps) other) ≡ is_ready_as program (entry_of (entry ∷ stores) other)
+  by true true here there rest = rw (here, there) (sym (ready_kept program entry maps))
+  by true false here there rest = rw (here, there) refl
+  by false true here there rest = rw (here, there) refl
+  by false false here there rest = rw (here, there) rest
 
 pub ready-with_maps : (library : Library) (stores : List MemberMaps) (number : ℕ) (maps : List Map) (chain : List Member) → AreReady library stores chain → AreReady library (with_maps stores number maps) chain
 ready-with_maps library stores number maps [] ready = refl
@@ -113,6 +176,13 @@ ready-with_maps library stores number maps (member ∷ chain) ready =
 
 pub ready_first : (library : Library) (stores : List MemberMaps) (member : Member) (chain : List Member) → AreReady library stores (member ∷ chain) → (is_ready library stores member ≡ true) × AreReady library stores chain
 ready_first library stores member chain ready = and_parts (is_ready library stores member) (list_all (is_ready library stores) chain) ready
+
+pub ready_of : (library : Library) (stores : List MemberMaps) (chain : List Member) (place : ℕ) (member : Member) → AreReady library stores chain → slice_get chain place ≡ Some member → is_ready library stores member ≡ true
+ready_of library stores [] place member ready is = absurd cc
+ready_of library stores (m ∷ chain) zero member ready is =
+    let same : m ≡ member = cc in
+    subst (λ (m : Member). is_ready library stores m ≡ true) same (ready_first library stores m chain ready).0
+ready_of library stores (m ∷ chain) (suc place) member ready is = ready_of library stores chain place member (ready_first library stores m chain ready).1 is
 
 -- the maps that a ready program finds are as many as its own
 pub has_maps : (stores : List MemberMaps) (number : ℕ) (program : Program) → is_ready_as (Some program) (entry_of stores number) ≡ true → HasMaps stores number (length program.maps)
@@ -125,32 +195,34 @@ has_maps stores number program ready = by (entry_of stores number) refl ready wh
 pub with_maps-set : (stores : List MemberMaps) (number place : ℕ) (entry : MemberMaps) (maps : List Map) → position_or_len (λ e. e.number == number) stores ≡ place → slice_get stores place ≡ Some entry
     → slice_set stores place (record entry { maps = maps }) ≡ with_maps stores number maps
 with_maps-set [] number place entry maps at is = absurd cc
-with_maps-set (e ∷ stores) number place entry maps at is = by (e.number == number) place refl at is where
-  by : (b : Bool) (place : ℕ) → (e.number == number) ≡ b → position_or_len (λ e. e.number == number) (e ∷ stores) ≡ place → slice_get (e ∷ stores) place ≡ Some entry → slice_set (e ∷ stores) place (record entry { maps = maps }) ≡ with_maps (e ∷ stores) number maps
-  by true zero h at is = let same : e ≡ entry = cc in rw h (ap (λ (x : MemberMaps). record x { maps = maps } ∷ stores) (sym same))
-  by true (suc k) h at is = absurd (let none : 0 ≡ suc k = rw h at at in omega arith)
-  by false zero h at is = absurd (let some : 1 + position_or_len (λ e. e.number == number) stores ≡ 0 = rw h at at in omega arith)
-  by false (suc k) h at is =
+with_maps-set (e ∷ stores) number place entry maps at is = by (e.number == number) place refl at is (λ k at is. with_maps-set stores number k entry maps at is) where
+  by : (b : Bool) (place : ℕ) → (e.number == number) ≡ b → position_or_len (λ e. e.number == number) (e ∷ stores) ≡ place → slice_get (e ∷ stores) place ≡ Some entry
+    → ((k : ℕ) → position_or_len (λ e. e.number == number) stores ≡ k → slice_get stores k ≡ Some entry → slice_set stores k (record entry { maps = maps }) ≡ with_maps stores number maps) → slice_set (e ∷ stores) place (record entry { maps = maps }) ≡ with_maps (e ∷ stores) number maps
+  by true zero h at is rest = let same : e ≡ entry = cc in rw h (ap (λ (x : MemberMaps). record x { maps = maps } ∷ stores) (sym same))
+  by true (suc k) h at is rest = absurd (let none : 0 ≡ suc k = rw h at at in omega arith)
+  by false zero h at is rest = absurd (let some : 1 + position_or_len (λ e. e.number == number) stores ≡ 0 = rw h at at in omega arith)
+  by false (suc k) h at is rest =
       let next : 1 + position_or_len (λ e. e.number == number) stores ≡ suc k = rw h at at in
-      rw h (ap (λ es. e ∷ es) (with_maps-set stores number k entry maps (omega arith) is))
+      rw h (ap (λ es. e ∷ es) (rest k (omega arith) is))
 
 pub maps_of-at : (stores : List MemberMaps) (number place : ℕ) (entry : MemberMaps) → position_or_len (λ e. e.number == number) stores ≡ place → slice_get stores place ≡ Some entry → entry_of stores number ≡ Some entry
 maps_of-at [] number place entry at is = absurd cc
-maps_of-at (e ∷ stores) number place entry at is = by (e.number == number) place refl at is where
-  by : (b : Bool) (place : ℕ) → (e.number == number) ≡ b → position_or_len (λ e. e.number == number) (e ∷ stores) ≡ place → slice_get (e ∷ stores) place ≡ Some entry → entry_of (e ∷ stores) number ≡ Some entry
-  by true zero h at is = rw h is
-  by true (suc k) h at is = absurd (let none : 0 ≡ suc k = rw h at at in omega arith)
-  by false zero h at is = absurd (let some : 1 + position_or_len (λ e. e.number == number) stores ≡ 0 = rw h at at in omega arith)
-  by false (suc k) h at is =
+maps_of-at (e ∷ stores) number place entry at is = by (e.number == number) place refl at is (λ k at is. maps_of-at stores number k entry at is) where
+  by : (b : Bool) (place : ℕ) → (e.number == number) ≡ b → position_or_len (λ e. e.number == number) (e ∷ stores) ≡ place → slice_get (e ∷ stores) place ≡ Some entry
+    → ((k : ℕ) → position_or_len (λ e. e.number == number) stores ≡ k → slice_get stores k ≡ Some entry → entry_of stores number ≡ Some entry) → entry_of (e ∷ stores) number ≡ Some entry
+  by true zero h at is rest = rw h is
+  by true (suc k) h at is rest = absurd (let none : 0 ≡ suc k = rw h at at in omega arith)
+  by false zero h at is rest = absurd (let some : 1 + position_or_len (λ e. e.number == number) stores ≡ 0 = rw h at at in omega arith)
+  by false (suc k) h at is rest =
       let next : 1 + position_or_len (λ e. e.number == number) stores ≡ suc k = rw h at at in
-      rw h (maps_of-at stores number k entry (omega arith) is)
+      rw h (rest k (omega arith) is)
 
 pub entry-with : (stores : List MemberMaps) (number : ℕ) (entry : MemberMaps) (maps : List Map) → entry_of stores number ≡ Some entry → maps_of (with_maps stores number maps) number ≡ maps
 entry-with [] number entry maps is = absurd cc
-entry-with (e ∷ stores) number entry maps is = by (e.number == number) refl is where
-  by : (b : Bool) → (e.number == number) ≡ b → entry_of (e ∷ stores) number ≡ Some entry → maps_of (with_maps (e ∷ stores) number maps) number ≡ maps
-  by true h is = rw h (rw h refl)
-  by false h is = rw h (rw h (entry-with stores number entry maps (rw h at is)))
+entry-with (e ∷ stores) number entry maps is = by (e.number == number) refl is (λ is. entry-with stores number entry maps is) where
+  by : (b : Bool) → (e.number == number) ≡ b → entry_of (e ∷ stores) number ≡ Some entry → (entry_of stores number ≡ Some entry → maps_of (with_maps stores number maps) number ≡ maps) → maps_of (with_maps (e ∷ stores) number maps) number ≡ maps
+  by true h is rest = rw h (rw h refl)
+  by false h is rest = rw h (rw h (rest (rw h at is)))
 
 -- the place of a number
 place_at : (place first long : ℕ) → Some first ≡ (if nat_lt place long then Some place else None) → place ≡ first
@@ -248,10 +320,10 @@ all_append P (x ∷ xs) ys one other = (one.0, all_append P xs ys one.1 other)
 
 staying_suits : (library : Library) (chain : List Member) (stores : List MemberMaps) → AllByRecursion (λ entry. suits_some library chain entry ≡ true) (staying library chain stores)
 staying_suits library chain [] = tt
-staying_suits library chain (entry ∷ stores) = by (suits_some library chain entry) refl where
-  by : (b : Bool) → suits_some library chain entry ≡ b → AllByRecursion (λ entry. suits_some library chain entry ≡ true) (cond b (entry ∷ staying library chain stores) (staying library chain stores))
-  by true h = (h, staying_suits library chain stores)
-  by false h = staying_suits library chain stores
+staying_suits library chain (entry ∷ stores) = by (suits_some library chain entry) refl (staying_suits library chain stores) where
+  by : (b : Bool) → suits_some library chain entry ≡ b → AllByRecursion (λ entry. suits_some library chain entry ≡ true) (staying library chain stores) → AllByRecursion (λ entry. suits_some library chain entry ≡ true) (cond b (entry ∷ staying library chain stores) (staying library chain stores))
+  by true h rest = (h, rest)
+  by false h rest = rest
 
 first_suits : (library : Library) (member : Member) (program : Program) → program_of library member ≡ Some program → suits library member (first_maps member.number program) ≡ true
 first_suits library member program is = rw (number_itself member.number, is) (specs_itself (specs_of program.maps))
@@ -259,24 +331,22 @@ first_suits library member program is = rw (number_itself member.number, is) (sp
 entering_suits : (library : Library) (stores : List MemberMaps) (chain rest : List Member) → ((entry : MemberMaps) → suits_some library rest entry ≡ true → suits_some library chain entry ≡ true)
     → AllByRecursion (λ entry. suits_some library chain entry ≡ true) (entering library rest stores)
 entering_suits library stores chain [] weaker = tt
-entering_suits library stores chain (member ∷ rest) weaker = by (program_of library member) (list_any (suits library member) stores) refl refl where
-  later : AllByRecursion (λ entry. suits_some library chain entry ≡ true) (entering library rest stores)
-  later = entering_suits library stores chain rest (λ entry some. weaker entry (or_right (suits library member entry) (suits_some library rest entry) some))
-
-  by : (o : Option Program) (b : Bool) → program_of library member ≡ o → list_any (suits library member) stores ≡ b → AllByRecursion (λ entry. suits_some library chain entry ≡ true) (entering library (member ∷ rest) stores)
-  by None b is has = rw is later
-  by (Some program) true is has = rw (is, has) later
-  by (Some program) false is has =
+entering_suits library stores chain (member ∷ rest) weaker = by (program_of library member) (list_any (suits library member) stores) refl refl (entering_suits library stores chain rest (λ entry some. weaker entry (or_right (suits library member entry) (suits_some library rest entry) some))) where
+  by : (o : Option Program) (b : Bool) → program_of library member ≡ o → list_any (suits library member) stores ≡ b → AllByRecursion (λ entry. suits_some library chain entry ≡ true) (entering library rest stores)
+    → AllByRecursion (λ entry. suits_some library chain entry ≡ true) (entering library (member ∷ rest) stores)
+  by None b is has later = rw is later
+  by (Some program) true is has later = rw (is, has) later
+  by (Some program) false is has later =
       let suits_it : suits library member (first_maps member.number program) ≡ true = first_suits library member program is in
       rw (is, has) (weaker (first_maps member.number program) (or_left (suits library member (first_maps member.number program)) (suits_some library rest (first_maps member.number program)) suits_it), later)
 
 -- and for each program some entry is prepared
 any_append_left : (p : MemberMaps → Bool) (xs ys : List MemberMaps) → list_any p xs ≡ true → list_any p (xs ++ ys) ≡ true
 any_append_left p [] ys any = absurd cc
-any_append_left p (x ∷ xs) ys any = by (p x) refl where
-  by : (b : Bool) → p x ≡ b → list_any p ((x ∷ xs) ++ ys) ≡ true
-  by true h = rw h refl
-  by false h = rw h (any_append_left p xs ys (rw h at any))
+any_append_left p (x ∷ xs) ys any = by (p x) refl any (λ any. any_append_left p xs ys any) where
+  by : (b : Bool) → p x ≡ b → list_any p (x ∷ xs) ≡ true → (list_any p xs ≡ true → list_any p (xs ++ ys) ≡ true) → list_any p ((x ∷ xs) ++ ys) ≡ true
+  by true h any rest = rw h refl
+  by false h any rest = rw h (rest (rw h at any))
 
 any_append_right : (p : MemberMaps → Bool) (xs ys : List MemberMaps) → list_any p ys ≡ true → list_any p (xs ++ ys) ≡ true
 any_append_right p [] ys any = any
@@ -284,10 +354,10 @@ any_append_right p (x ∷ xs) ys any = or_right (p x) (list_any p (xs ++ ys)) (a
 
 any_weaker : (p q : MemberMaps → Bool) (xs : List MemberMaps) → ((x : MemberMaps) → p x ≡ true → q x ≡ true) → list_any p xs ≡ true → list_any q xs ≡ true
 any_weaker p q [] weaker any = absurd cc
-any_weaker p q (x ∷ xs) weaker any = by (p x) refl where
-  by : (b : Bool) → p x ≡ b → list_any q (x ∷ xs) ≡ true
-  by true h = or_left (q x) (list_any q xs) (weaker x h)
-  by false h = or_right (q x) (list_any q xs) (any_weaker p q xs weaker (rw h at any))
+any_weaker p q (x ∷ xs) weaker any = by (p x) refl any (λ any. any_weaker p q xs weaker any) where
+  by : (b : Bool) → p x ≡ b → list_any p (x ∷ xs) ≡ true → (list_any p xs ≡ true → list_any q xs ≡ true) → list_any q (x ∷ xs) ≡ true
+  by true h any rest = or_left (q x) (list_any q xs) (weaker x h)
+  by false h any rest = or_right (q x) (list_any q xs) (rest (rw h at any))
 
 some_suits : (library : Library) (chain : List Member) (place : ℕ) (member : Member) (entry : MemberMaps) → slice_get chain place ≡ Some member → suits library member entry ≡ true → suits_some library chain entry ≡ true
 some_suits library [] place member entry is suits_it = absurd cc
@@ -299,12 +369,13 @@ some_suits library (m ∷ chain) (suc place) member entry is suits_it =
 
 stays_there : (library : Library) (chain : List Member) (place : ℕ) (member : Member) (stores : List MemberMaps) → slice_get chain place ≡ Some member → list_any (suits library member) stores ≡ true → list_any (suits library member) (staying library chain stores) ≡ true
 stays_there library chain place member [] is any = absurd cc
-stays_there library chain place member (entry ∷ stores) is any = by (suits library member entry) (suits_some library chain entry) refl refl where
-  by : (b c : Bool) → suits library member entry ≡ b → suits_some library chain entry ≡ c → list_any (suits library member) (staying library chain (entry ∷ stores)) ≡ true
-  by true true h k = rw (k, h) refl
-  by true false h k = absurd (let some : suits_some library chain entry ≡ true = some_suits library chain place member entry is h in cc)
-  by false true h k = rw (k, h) (stays_there library chain place member stores is (rw h at any))
-  by false false h k = rw k (stays_there library chain place member stores is (rw h at any))
+stays_there library chain place member (entry ∷ stores) is any = by (suits library member entry) (suits_some library chain entry) refl refl any (λ any. stays_there library chain place member stores is any) where
+  by : (b c : Bool) → suits library member entry ≡ b → suits_some library chain entry ≡ c → list_any (suits library member) (entry ∷ stores) ≡ true
+    → (list_any (suits library member) stores ≡ true → list_any (suits library member) (staying library chain stores) ≡ true) → list_any (suits library member) (staying library chain (entry ∷ stores)) ≡ true
+  by true true h k any rest = rw (k, h) refl
+  by true false h k any rest = absurd (let some : suits_some library chain entry ≡ true = some_suits library chain place member entry is h in cc)
+  by false true h k any rest = rw (k, h) (rest (rw h at any))
+  by false false h k any rest = rw k (rest (rw h at any))
 
 enters_there : (library : Library) (chain : List Member) (place : ℕ) (member : Member) (program : Program) (stores : List MemberMaps) → slice_get chain place ≡ Some member → program_of library member ≡ Some program → list_any (suits library member) stores ≡ false → list_any (λ entry. entry.number == member.number) (entering library chain stores) ≡ true
 enters_there library [] place member program stores is has none = absurd cc
@@ -321,10 +392,11 @@ number_of_suiting library member entry suits_it = (and_parts (entry.number == me
 ready_among : (program : Option Program) (number : ℕ) (entries : List MemberMaps) → AllByRecursion (λ entry. (entry.number == number) ≡ true → is_made_for program entry ≡ true) entries → list_any (λ entry. entry.number == number) entries ≡ true → is_ready_as program (entry_of entries number) ≡ true
 ready_among None number entries all any = refl
 ready_among (Some program) number [] all any = absurd cc
-ready_among (Some program) number (entry ∷ entries) all any = by (entry.number == number) refl where
-  by : (b : Bool) → (entry.number == number) ≡ b → is_ready_as (Some program) (entry_of (entry ∷ entries) number) ≡ true
-  by true h = rw h (all.0 h)
-  by false h = rw h (ready_among (Some program) number entries all.1 (rw h at any))
+ready_among (Some program) number (entry ∷ entries) all any = by (entry.number == number) refl any (λ any. ready_among (Some program) number entries all.1 any) where
+  by : (b : Bool) → (entry.number == number) ≡ b → list_any (λ entry. entry.number == number) (entry ∷ entries) ≡ true
+    → (list_any (λ entry. entry.number == number) entries ≡ true → is_ready_as (Some program) (entry_of entries number) ≡ true) → is_ready_as (Some program) (entry_of (entry ∷ entries) number) ≡ true
+  by true h any rest = rw h (all.0 h)
+  by false h any rest = rw h (rest (rw h at any))
 
 all_weaker : (P Q : MemberMaps → Type 0) (xs : List MemberMaps) → ((x : MemberMaps) → P x → Q x) → AllByRecursion P xs → AllByRecursion Q xs
 all_weaker P Q [] weaker all = tt

@@ -143,11 +143,11 @@ pub record Joins (s : Inside) (interface : ℕ) (mode : Mode) (member : Member) 
   pub number : member.number ≡ s.count + 1
   pub old : attached_at interface hook ≡ map (placed interface mode) hook.chain
   pub chain : new.chain ≡ insert hook.chain place member
-  pub mode : new.mode ≡ mode
+  pub same : new.mode ≡ mode
 
 joined_at : (s : Inside) (interface : ℕ) (mode : Mode) (member : Member) (place : ℕ) (hook new : Hook) → Joins s interface mode member place hook new → attached_at interface new ≡ map (placed interface mode) (insert hook.chain place member)
 joined_at s interface mode member place hook new joins =
-    ap (λ m. map (placed interface m) new.chain) joins.mode ∙ ap (map (placed interface mode)) joins.chain
+    ap (λ m. map (placed interface m) new.chain) joins.same ∙ ap (map (placed interface mode)) joins.chain
 
 -- a test that the member fails
 joined_no : (p : Attached → Bool) (s : Inside) (interface : ℕ) (mode : Mode) (member : Member) (place : ℕ) (hook new : Hook) → Joins s interface mode member place hook new → p (placed interface mode member) ≡ false
@@ -187,14 +187,16 @@ in_order-joined s interface mode member place hook new joins =
 members_of-push : (members : List Attached) (interface : ℕ) (mode : Mode) (member : Member) → map member_of (members_of (members ++ placed interface mode member ∷ []) interface) ≡ map member_of (members_of members interface) ++ member ∷ []
 members_of-push members interface mode member =
     let here : (interface == interface) ≡ true = grind (arith, nat_tests) in
+    let last : members_of (placed interface mode member ∷ []) interface ≡ placed interface mode member ∷ [] = rw here refl in
     ap (map member_of) (filter-append (λ a. a.interface == interface) members (placed interface mode member ∷ []))
     ∙ map-append member_of (members_of members interface) (members_of (placed interface mode member ∷ []) interface)
-    ∙ ap (λ ys. map member_of (members_of members interface) ++ map member_of ys) (rw here refl)
+    ∙ ap (λ ys. map member_of (members_of members interface) ++ map member_of ys) last
 
 members_of-push_other : (members : List Attached) (interface other : ℕ) (mode : Mode) (member : Member) → (interface == other) ≡ false → members_of (members ++ placed interface mode member ∷ []) other ≡ members_of members other
 members_of-push_other members interface other mode member apart =
+    let last : members_of (placed interface mode member ∷ []) other ≡ [] = rw apart refl in
     filter-append (λ a. a.interface == other) members (placed interface mode member ∷ [])
-    ∙ append-none (members_of members other) _ (rw apart refl)
+    ∙ append-none (members_of members other) (members_of (placed interface mode member ∷ []) other) last
 
 pub whole-joined : (s t : Inside) (interface : ℕ) (mode : Mode) (member : Member) (place : ℕ) (hook new : Hook) → Joins s interface mode member place hook new → s.count < 65536 → t.hooks.items ≡ slice_set s.hooks.items interface new → t.count ≡ s.count + 1
     → ((members : List Member) → IsChain members hook.chain → IsChain (members ++ member ∷ []) new.chain) → IsWhole t
@@ -229,21 +231,29 @@ in_order-left s interface leaves hook new leave =
 
 members_of-left : (members : List Attached) (interface : ℕ) (leaves : Member → Bool) → map member_of (members_of (filter (stays interface leaves) members) interface) ≡ filter (λ m. not (leaves m)) (map member_of (members_of members interface))
 members_of-left [] interface leaves = refl
-members_of-left (a ∷ members) interface leaves = by (a.interface == interface) (leaves a.member) refl refl where
-  by : (b c : Bool) → (a.interface == interface) ≡ b → leaves a.member ≡ c → map member_of (members_of (filter (stays interface leaves) (a ∷ members)) interface) ≡ filter (λ m. not (leaves m)) (map member_of (members_of (a ∷ members) interface))
-  by true true on off = rw (on, off) (rw off (members_of-left members interface leaves))
-  by true false on off = rw (on, off) (rw (on, off) (ap (λ ms. a.member ∷ ms) (members_of-left members interface leaves)))
-  by false c on off = rw on (rw on (members_of-left members interface leaves))
+members_of-left (a ∷ members) interface leaves =
+    elim (cases_Bool (a.interface == interface)) [
+      | inl on ↦
+          elim (cases_Bool (leaves a.member)) [
+            | inl off ↦ rw (on, off) (members_of-left members interface leaves)
+            | inr off ↦ rw (on, off, on) (ap (λ ms. a.member ∷ ms) (members_of-left members interface leaves))
+          ]
+      | inr on ↦ rw (on, on) (members_of-left members interface leaves)
+    ]
 
 members_of-left_other : (members : List Attached) (interface other : ℕ) (leaves : Member → Bool) → (interface == other) ≡ false → members_of (filter (stays interface leaves) members) other ≡ members_of members other
 members_of-left_other [] interface other leaves apart = refl
-members_of-left_other (a ∷ members) interface other leaves apart = by (a.interface == interface) (leaves a.member) refl refl where
-  by : (b c : Bool) → (a.interface == interface) ≡ b → leaves a.member ≡ c → members_of (filter (stays interface leaves) (a ∷ members)) other ≡ members_of (a ∷ members) other
-  by true true on off =
-      let elsewhere : (a.interface == other) ≡ false = grind (arith, nat_tests) in
-      rw (on, off, elsewhere) (members_of-left_other members interface other leaves apart)
-  by true false on off = rw (on, off) (ap (λ ms. cond (a.interface == other) (a ∷ ms) ms) (members_of-left_other members interface other leaves apart))
-  by false c on off = rw on (ap (λ ms. cond (a.interface == other) (a ∷ ms) ms) (members_of-left_other members interface other leaves apart))
+members_of-left_other (a ∷ members) interface other leaves apart =
+    elim (cases_Bool (a.interface == interface)) [
+      | inl on ↦
+          elim (cases_Bool (leaves a.member)) [
+            | inl off ↦
+                let elsewhere : (a.interface == other) ≡ false = grind (arith, nat_tests) in
+                rw (on, off, elsewhere) (members_of-left_other members interface other leaves apart)
+            | inr off ↦ rw (on, off) (ap (λ ms. cond (a.interface == other) (a ∷ ms) ms) (members_of-left_other members interface other leaves apart))
+          ]
+      | inr on ↦ rw on (ap (λ ms. cond (a.interface == other) (a ∷ ms) ms) (members_of-left_other members interface other leaves apart))
+    ]
 
 pub whole-left : (s t : Inside) (interface : ℕ) (leaves : Member → Bool) (hook new : Hook) → Leaves s interface leaves hook new → s.count < 65536 → t.hooks.items ≡ slice_set s.hooks.items interface new → t.count ≡ s.count + 1
     → ((members : List Member) → IsChain members hook.chain → IsChain (filter (λ m. not (leaves m)) members) new.chain) → IsWhole t
@@ -277,10 +287,11 @@ none_stay (m ∷ ms) = none_stay ms
 -- the next number is new on each interface
 none-any : (p : Attached → Bool) (f : Member → Attached) (ms : List Member) → filter p (map f ms) ≡ [] → list_any (λ m. p (f m)) ms ≡ false
 none-any p f [] none = refl
-none-any p f (m ∷ ms) none = by (p (f m)) refl where
-  by : (b : Bool) → p (f m) ≡ b → list_any (λ m. p (f m)) (m ∷ ms) ≡ false
-  by true h = absurd (let some = rw h at none in cc)
-  by false h = rw h (none-any p f ms (rw h at none))
+none-any p f (m ∷ ms) none =
+    elim (cases_Bool (p (f m))) [
+      | inl h ↦ absurd (let some = rw h at none in cc)
+      | inr h ↦ rw h (none-any p f ms (rw h at none))
+    ]
 
 pub number-new : (s : Inside) (interface number : ℕ) (hook : Hook) → IsWhole s → slice_get s.hooks.items interface ≡ Some hook → number ≡ s.count + 1 → has_number hook.chain number ≡ false
 number-new s interface number hook whole here next =

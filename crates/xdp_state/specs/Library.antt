@@ -1,5 +1,5 @@
 -- The programs of a run, by number: objects in order, and the programs of one object in order.
-use Rattle.std.specs.Prelude.{ℕ, ◌+◌, ◌<◌, ◌^◌, Bool, nat_eq, List, [], ◌∷◌, ◌++◌, codes, count_by, length, map, take, All, Option, slice_get, if◌then◌else◌}
+use Rattle.std.specs.Prelude.{ℕ, ◌+◌, ◌<◌, ◌^◌, ◌&&◌, Bool, not, nat_eq, List, [], ◌∷◌, ◌++◌, codes, count_by, length, map, take, All, Option, slice_get, if◌then◌else◌}
 use Rattle.std.specs.Cmp.Lexicographic.{pointwise, slice_cmp}
 use Rattle.std.specs.List.{flat_map, list_any}
 use Rattle.std.specs.Ordering.{is_lt, nat_cmp}
@@ -51,6 +51,17 @@ different (name ∷ names) = if is_among name names then different names else na
 -- before the other in the order of bytes
 abbrev pub is_less : List ℕ → List ℕ → Bool
 is_less name other = is_lt (slice_cmp nat_cmp name other)
+
+-- one of these programs, and one of these objects', has the name
+abbrev pub is_named : List ℕ → List Program → Bool
+is_named name programs = list_any (λ program. pointwise nat_eq name program.name) programs
+
+abbrev pub is_named_in : List ℕ → List ObjectRow → Bool
+is_named_in name objects = list_any (λ object. is_named name (programs_in object.loaded)) objects
+
+-- another name is less, and neither these programs nor these objects' have it
+abbrev pub is_last_less : List ℕ → List Program → List ObjectRow → List ℕ → Bool
+is_last_less other programs objects name = is_less other name && (not (is_named other programs) && not (is_named_in other objects))
 
 -- how many different names are less
 unfoldable pub lesser : List (List ℕ) → List ℕ → ℕ

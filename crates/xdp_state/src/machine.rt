@@ -4,7 +4,7 @@ ghost use Rattle.bpf_insn.specs.Code.{IsCode};
 ghost use Rattle.bpf_machine.specs.Outcome.{outcome_of};
 ghost use Rattle.chain_order.specs.Ordered.{IsOrdered};
 ghost use Rattle.xdp_state.specs.Library.{IsSound};
-ghost use Rattle.xdp_state.specs.Stores.{AreReady, HasMaps, entering, maps_of, prepared, staying, suits, with_maps};
+ghost use Rattle.xdp_state.specs.Stores.{AreReady, HasMaps, entering, entering_as, maps_of, prepared, program_of, staying, suits, with_maps};
 
 use crate::library::Library;
 use crate::member_store::{MemberStore, program_of};
@@ -57,10 +57,10 @@ impl Machine {
         ensures stores { self.new.stores.items
             ≡ with_maps self.old.stores.items number (maps_of self.new.stores.items number) }
     {
-        let Some(place) = place_of(&self.stores, number) else {
-            unreachable!()
-        };
-        self.stores[place].run(code, &mut self.scratch, &mut self.frame, env)
+        match place_of(&self.stores, number) {
+            Some(place) => self.stores[place].run(code, &mut self.scratch, &mut self.frame, env),
+            None => unreachable!(),
+        }
     }
 }
 
@@ -94,14 +94,29 @@ fn entering(
 {
     let mut made = Vec::new(alloc);
     for place in 0..chain.len() {
-        let member = chain.at(place);
-        if let Some(program) = program_of(library, member)
-            && !has_suiting(stores, library, member)
-        {
-            made.push(MemberStore::new(alloc, member.number, program)?)?;
+        if let Some(store) = entering_for(alloc, library, chain.at(place), stores)? {
+            made.push(store)?;
         }
     }
     Ok(made)
+}
+
+/// The maps for a member, if it is a program that none of these suits.
+fn entering_for(
+    alloc: Global,
+    library: &Library,
+    member: &Member,
+    stores: &[MemberStore],
+) -> Result<Option<MemberStore>, OutOfMemory>
+    requires { IsSound library.now }
+    ensures { IfOk result (λ made. made ≡ entering_as library.now stores.now member.now (program_of library.now member.now)) }
+{
+    match program_of(library, member) {
+        Some(program) if !has_suiting(stores, library, member) => {
+            Ok(Some(MemberStore::new(alloc, member.number, program)?))
+        }
+        Some(_) | None => Ok(None),
+    }
 }
 
 /// Whether one of these suits the member.

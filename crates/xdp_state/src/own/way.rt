@@ -6,7 +6,7 @@ ghost use Rattle.net_headers.specs.Headers.{headers_of};
 ghost use Rattle.xdp_state.specs.Library.{IsSound, program_at};
 ghost use Rattle.xdp_state.specs.Own.{IsPrepared};
 ghost use Rattle.xdp_state.specs.Stores.{AreReady, is_ready, is_ready_as, entry_of};
-ghost use Rattle.xdp_state.specs.Traversal.{course_of, filter_visit, passage, program_passage, run_visit, sent_to, setting_of, standing_behind, traversal_of, way_from, way_of};
+ghost use Rattle.xdp_state.specs.Traversal.{course_of, filter_visit, passage, program_passage, run_visit, sent_to, setting_of, standing_behind, target_of, traversal_of, verdict_of, way_from, way_of};
 
 use super::Own;
 use crate::library::Library;
@@ -44,12 +44,20 @@ pub fn traverse(state: &State, library: &Library, own: &mut Own, packet: &Packet
         &mut own.machine,
         &mut own.visits,
     );
-    let (verdict, target) = match last {
-        Some(visit) => (visit.action, visit.target),
-        None => (Action::Pass, 0),
-    };
+    let (verdict, target) = decided_by(last);
     own.verdict = Some(verdict);
     own.target = target;
+}
+
+/// The verdict and its target: those of the visit that decides, and XDP_PASS where none does.
+fn decided_by(last: Option<Visit>) -> (Action, u32)
+    ensures verdict { result.0 ≡ verdict_of last }
+    ensures target { result.1 ≡ target_of last }
+{
+    match last {
+        Some(visit) => (visit.action, visit.target),
+        None => (Action::Pass, 0),
+    }
 }
 
 /// Visits the members in order, and answers the visit that decides.

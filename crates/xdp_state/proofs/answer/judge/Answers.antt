@@ -27,7 +27,7 @@ returns-in-LoaderStatus-clause-taken c = λ change is room.
     (sym (returns-in-LoaderStatus-clause-answer c) ∙ is) room
 
 pub returns-in-FilterLoad-clause-answer : goal.returns-in-FilterLoad-clause-answer
-returns-in-FilterLoad-clause-answer c = rw c.in-FilterLoad.is (rw c.as_slice.ensures at c.judge_filter.ensures)
+returns-in-FilterLoad-clause-answer c = rw c.in-FilterLoad.is (rw c.as_slice-in-FilterLoad.ensures at c.judge_filter.ensures)
 
 pub returns-in-FilterLoad-clause-taken : goal.returns-in-FilterLoad-clause-taken
 returns-in-FilterLoad-clause-taken c = λ change is room.
@@ -35,25 +35,25 @@ returns-in-FilterLoad-clause-taken c = λ change is room.
     (sym (returns-in-FilterLoad-clause-answer c) ∙ is) room
 
 pub returns-in-FilterUnload-clause-answer : goal.returns-in-FilterUnload-clause-answer
-returns-in-FilterUnload-clause-answer c = rw c.in-FilterUnload.is (rw c.as_slice.ensures at c.judge_filter_off.ensures)
+returns-in-FilterUnload-clause-answer c = rw c.in-FilterUnload.is (rw c.as_slice-in-FilterUnload.ensures at c.judge_filter_off.ensures)
 
 pub returns-in-FilterUnload-clause-taken : goal.returns-in-FilterUnload-clause-taken
 returns-in-FilterUnload-clause-taken c = λ change is room.
     answer-taken c.args.library.now c.args.state.now c.args.command.now change c.requires.rule c.requires.interfaces
     (sym (returns-in-FilterUnload-clause-answer c) ∙ is) room
 
-pub returns-in-FilterRule-then-remove-clause-answer : goal.returns-in-FilterRule-then-remove-clause-answer
-returns-in-FilterRule-then-remove-clause-answer c = rw (c.in-FilterRule.is, c.if-remove.true) c.judge_clear.ensures
+pub returns-then-remove-clause-answer : goal.returns-then-remove-clause-answer
+returns-then-remove-clause-answer c = rw (c.in-FilterRule.is, c.if-remove.true) c.judge_clear.ensures
 
-pub returns-in-FilterRule-then-remove-clause-taken : goal.returns-in-FilterRule-then-remove-clause-taken
-returns-in-FilterRule-then-remove-clause-taken c = λ change is room.
+pub returns-then-remove-clause-taken : goal.returns-then-remove-clause-taken
+returns-then-remove-clause-taken c = λ change is room.
     answer-taken c.args.library.now c.args.state.now c.args.command.now change c.requires.rule c.requires.interfaces
-    (sym (returns-in-FilterRule-then-remove-clause-answer c) ∙ is) room
+    (sym (returns-then-remove-clause-answer c) ∙ is) room
 
-pub returns-in-FilterRule-else-remove-clause-answer : goal.returns-in-FilterRule-else-remove-clause-answer
-returns-in-FilterRule-else-remove-clause-answer c = rw (c.in-FilterRule.is, c.if-remove.false) c.judge_set.ensures
+pub returns-else-remove-clause-answer : goal.returns-else-remove-clause-answer
+returns-else-remove-clause-answer c = rw (c.in-FilterRule.is, c.if-remove.false) c.judge_set.ensures
 
-pub returns-in-FilterRule-else-remove-clause-taken : goal.returns-in-FilterRule-else-remove-clause-taken
-returns-in-FilterRule-else-remove-clause-taken c = λ change is room.
+pub returns-else-remove-clause-taken : goal.returns-else-remove-clause-taken
+returns-else-remove-clause-taken c = λ change is room.
     answer-taken c.args.library.now c.args.state.now c.args.command.now change c.requires.rule c.requires.interfaces
-    (sym (returns-in-FilterRule-else-remove-clause-answer c) ∙ is) room
+    (sym (returns-else-remove-clause-answer c) ∙ is) room

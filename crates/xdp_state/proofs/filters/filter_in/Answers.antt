@@ -1,6 +1,7 @@
-use Rattle.std.proofs.Common.{◌≡◌, Bool, true, false, List, [], ◌∷◌, find, refl, sym, ap, ◌∙◌}
+use Rattle.std.proofs.Common.{◌≡◌, Bool, true, false, List, [], ◌∷◌, find, refl, sym, ap, ◌∙◌, inl, inr}
 use Rattle.std.specs.List.{list_any}
 use Rattle.std.specs.Option.{is_some, option_map_or}
+use Rattle.std.proofs.lemmas.Bool.{cases_Bool}
 use Rattle.chain_order.specs.declared.member.Member.{Member}
 use Rattle.xdp_state.specs.Members.{is_filter}
 use Rattle.xdp_state.proofs.filters.filter_in.Goals as goal
@@ -10,10 +11,11 @@ passes member = is_filter member.kind
 
 found : (chain : List Member) → is_some (find passes chain) ≡ list_any passes chain
 found [] = refl
-found (m ∷ chain) = by (passes m) refl where
-  by : (b : Bool) → passes m ≡ b → is_some (find passes (m ∷ chain)) ≡ list_any passes (m ∷ chain)
-  by true h = rw h refl
-  by false h = rw h (found chain)
+found (m ∷ chain) =
+    elim (cases_Bool (passes m)) [
+      | inl h ↦ rw h refl
+      | inr h ↦ rw h (found chain)
+    ]
 
 pub returns-in_err-filter-clause-there : goal.returns-in_err-filter-clause-there
 returns-in_err-filter-clause-there c = rw c.from_residual.ensures (ap is_some (sym c.in_err-filter.was ∙ c.first_filter.ensures) ∙ found c.args.chain.now)

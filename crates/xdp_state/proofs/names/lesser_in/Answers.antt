@@ -1,12 +1,32 @@
-use Rattle.std.proofs.Common.{◌+◌, arith}
-use Rattle.xdp_state.specs.Library.{names_of, programs_of}
-use Rattle.xdp_state.proofs.Lesser.{lesser-next}
+use Rattle.std.proofs.Common.{◌≡◌, ◌+◌, drop, ap, sym, ◌∙◌, arith}
+use Rattle.std.proofs.lemmas.List.{take_rest}
+use Rattle.object_load.specs.declared.program.Program.{Program}
+use Rattle.xdp_state.specs.Library.{is_last_less, names_of, programs_of}
+use Rattle.xdp_state.proofs.Lesser.{bit, lesser-next}
 use Rattle.xdp_state.proofs.names.lesser_in.Goals as goal
+use Rattle.xdp_state.proofs.names.lesser_in.Goals.{then-is_last_less, else-is_last_less}
 
 pub loop-place-preserved : goal.loop-place-preserved
 loop-place-preserved c =
-    let next = lesser-next c.args.programs.now (names_of (programs_of c.args.behind.now)) c.args.name.now c.loop-place.place c.index.result.now (omega arith) c.index.ensures in
-    record {
-      value = grind (arith, next, c.loop-place.invariant.value, c.is_in.ensures, c.is_in_objects.ensures);
-      within = grind (arith, c.loop-place.invariant.within);
-    }
+    let programs = c.args.programs.now in
+    let behind = c.args.behind.now in
+    let name = c.args.name.now in
+    let place = c.loop-place.place in
+    let program = c.index-programs-place.result in
+    let other = c.as_slice-other.ensures ∙ ap (λ (p : Program). p.name) (sym c.index-programs-place.is) in
+    let last : c.is_last_less.result ≡ is_last_less program.name (drop (place + 1) programs) behind name = rw (take_rest programs (place + 1), other) at c.is_last_less.ensures in
+    let next = lesser-next programs behind name place program (omega arith) c.index-programs-place.is in
+    elim c.if-is_last_less.branch [
+      | then-is_last_less w ↦
+          let one : bit (is_last_less program.name (drop (place + 1) programs) behind name) ≡ 1 = ap bit (sym last ∙ w.if-is_last_less.true) in
+          record {
+            value = omega (arith, next, one, w.rank-is, c.loop-place.invariant.value);
+            within = omega (arith, w.rank-is, c.loop-place.invariant.within);
+          }
+      | else-is_last_less w ↦
+          let none : bit (is_last_less program.name (drop (place + 1) programs) behind name) ≡ 0 = ap bit (sym last ∙ w.if-is_last_less.false) in
+          record {
+            value = omega (arith, next, none, w.rank-is, c.loop-place.invariant.value);
+            within = omega (arith, w.rank-is, c.loop-place.invariant.within);
+          }
+    ]

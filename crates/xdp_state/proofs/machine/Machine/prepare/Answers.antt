@@ -6,8 +6,8 @@ use Rattle.xdp_state.proofs.machine.Machine.prepare.Goals as goal
 pub returns-clause-stores : goal.returns-clause-stores
 unfolding prepared
 returns-clause-stores c =
-    c.append.ensures ∙ ap (λ stores. stores ++ c.in_ok-entering.made.items) c.keep_staying.ensures.stores
-    ∙ ap (λ made. staying c.args.library.now c.args.chain.now c.args.self.now.stores.items ++ made) c.in_ok-entering.ensures.made
+    c.append.ensures ∙ ap (λ stores. stores ++ c.in_ok-made.field-0.items) c.keep_staying.ensures.stores
+    ∙ ap (λ made. staying c.args.library.now c.args.chain.now c.args.self.now.stores.items ++ made) c.in_ok-made.ensures.made
 
 pub returns-clause-ready : goal.returns-clause-ready
 returns-clause-ready c =

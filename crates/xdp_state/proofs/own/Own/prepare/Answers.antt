@@ -1,10 +1,20 @@
-use Rattle.std.proofs.Common.{refl}
+use Rattle.std.proofs.Common.{◌≡◌, ap, ◌∙◌}
 use Rattle.std.proofs.lemmas.Result.{on_err_weaker, on_ok_weaker}
+use Rattle.xdp_state.specs.Standing.{Standing}
+use Rattle.xdp_state.specs.Stores.{MemberMaps, prepared}
+use Rattle.xdp_state.proofs.Ways.{same_carrier}
 use Rattle.xdp_state.proofs.own.Own.prepare.Goals as goal
 
 pub returns-clause-ok : goal.returns-clause-ok
 returns-clause-ok c =
-    on_ok_weaker c.prepare.result (λ stores. rw (← c.self.view_is, stores, c.chain.ensures, c.prepare.ensures.frame) refl) c.prepare.ensures.stores
+    let own = c.self.inside in
+    let new = c.prepare.new.self in
+    on_ok_weaker c.prepare.result (λ stores. rw (← c.self.view_is) (same_carrier
+      (record { processor = own.processor; interface = own.interface; queue = own.queue; stores = new.stores.items })
+      _ new.frame own.machine.frame own.visits.items own.verdict own.target
+      (ap (λ stores. let standing : Standing = record { processor = own.processor; interface = own.interface; queue = own.queue; stores = stores } in standing)
+        (stores ∙ ap (λ chain. prepared c.args.library.now chain own.machine.stores.items) c.chain.ensures))
+      c.prepare.ensures.frame)) c.prepare.ensures.stores
 
 pub returns-clause-ready : goal.returns-clause-ready
 returns-clause-ready c =
@@ -12,4 +22,10 @@ returns-clause-ready c =
 
 pub returns-clause-err : goal.returns-clause-err
 returns-clause-err c =
-    on_err_weaker c.prepare.result (λ same. rw (← c.self.view_is, same, c.prepare.ensures.frame) refl) c.prepare.ensures.err
+    let own = c.self.inside in
+    let new = c.prepare.new.self in
+    on_err_weaker c.prepare.result (λ same. rw (← c.self.view_is) (same_carrier
+      (record { processor = own.processor; interface = own.interface; queue = own.queue; stores = new.stores.items })
+      _ new.frame own.machine.frame own.visits.items own.verdict own.target
+      (ap (λ stores. let standing : Standing = record { processor = own.processor; interface = own.interface; queue = own.queue; stores = stores } in standing) same)
+      c.prepare.ensures.frame)) c.prepare.ensures.err

@@ -2,8 +2,8 @@ use Rattle.std.proofs.Common.{refl}
 use Rattle.xdp_state.specs.Traversal.{passage}
 use Rattle.xdp_state.proofs.own.way.visit.Goals as goal
 
-pub visit_program-requires-ready : goal.visit_program-requires-ready
-visit_program-requires-ready c = rw c.in-Program.is at c.requires.ready
+pub visit_program-requires-clause-ready : goal.visit_program-requires-clause-ready
+visit_program-requires-clause-ready c = rw c.in-Program.is at c.requires.ready
 
 pub returns-in-Program-clause-passage : goal.returns-in-Program-clause-passage
 unfolding passage

@@ -1,35 +1,34 @@
-use Rattle.std.proofs.Common.{◌≡◌, Some, refl, sym}
-use Rattle.object_load.specs.Load.{IsRunnable}
+use Rattle.std.proofs.Common.{◌≡◌, Some, refl, sym, subst}
 use Rattle.xdp_state.specs.Library.{program_at}
+use Rattle.xdp_state.specs.Stores.{AreReady, maps_of}
+use Rattle.xdp_state.specs.Traversal.{setting_of}
 use Rattle.xdp_state.proofs.Programs.{runnable_at}
 use Rattle.xdp_state.proofs.Stores.{has_maps, ready-with_maps}
+use Rattle.xdp_state.proofs.Ways.{program_passed}
 use Rattle.xdp_state.proofs.own.way.visit_program.Goals as goal
-use Rattle.xdp_state.proofs.own.way.visit_program.Goals.{In-Some}
 
-there : (c : In-Some) → program_at c.args.library.now c.args.program ≡ Some c.in-Some.program.now
-there c = sym c.program.ensures
+pub run-requires-clause-code : goal.run-requires-clause-code
+run-requires-clause-code c = (runnable_at c.args.library.now c.args.program c.in-Some.program.now c.requires.sound (sym c.in-Some.ensures)).code
 
-runnable : (c : In-Some) → IsRunnable c.in-Some.program.now
-runnable c = runnable_at c.args.library.now c.args.program c.in-Some.program.now c.requires.sound (there c)
-
-pub run-requires-code : goal.run-requires-code
-run-requires-code c = (runnable c).code
-
-pub run-requires-maps : goal.run-requires-maps
-run-requires-maps c =
-    let ready = rw (there c) at c.requires.ready in
-    rw (runnable c).count (has_maps c.args.machine.old.stores.items c.args.number c.in-Some.program.now ready)
+pub run-requires-clause-maps : goal.run-requires-clause-maps
+run-requires-clause-maps c =
+    let there : program_at c.args.library.now c.args.program ≡ Some c.in-Some.program.now = sym c.in-Some.ensures in
+    let runnable = runnable_at c.args.library.now c.args.program c.in-Some.program.now c.requires.sound there in
+    let ready = rw there at c.requires.ready in
+    rw runnable.count (has_maps c.args.machine.now.stores.items c.args.number c.in-Some.program.now ready)
 
 pub returns-in-Some-clause-passage : goal.returns-in-Some-clause-passage
 returns-in-Some-clause-passage c = λ rows.
-    rw (there c, c.run.ensures.outcome, ← c.run.ensures.stores, c.end_visit.ensures) refl
+    program_passed (setting_of rows c.args.library.now c.args.env.now) c.args.machine.now.frame c.run.new.self.frame c.args.machine.now.stores.items c.run.new.self.stores.items c.args.number
+    (program_at c.args.library.now c.args.program) c.in-Some.program.now c.run.result c.end_visit.result (sym c.in-Some.ensures) c.run.ensures.outcome c.run.ensures.stores c.end_visit.ensures
 
 pub returns-in-Some-clause-ready : goal.returns-in-Some-clause-ready
 returns-in-Some-clause-ready c = λ chain ready.
-    rw c.run.ensures.stores (ready-with_maps c.args.library.now c.args.machine.old.stores.items c.args.number _ chain ready)
+    subst (λ stores. AreReady c.args.library.now stores chain) (sym c.run.ensures.stores)
+    (ready-with_maps c.args.library.now c.args.machine.now.stores.items c.args.number (maps_of c.run.new.self.stores.items c.args.number) chain ready)
 
 pub returns-in-None-clause-passage : goal.returns-in-None-clause-passage
-returns-in-None-clause-passage c = λ rows. rw (sym c.program.ensures) refl
+returns-in-None-clause-passage c = λ rows. rw (sym c.in-None.ensures) refl
 
 pub returns-in-None-clause-ready : goal.returns-in-None-clause-ready
 returns-in-None-clause-ready c = λ chain ready. ready

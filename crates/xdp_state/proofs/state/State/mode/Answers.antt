@@ -9,4 +9,4 @@ returns c =
     let s = c.self.inside in
     let hook = c.index-hook.result.now in
     let here = slice_get_read s.hooks.items 8 c.args.interface hook (sym c.self.invariant.hooks) c.requires c.index-hook.ensures in
-    rw (← c.self.view_is, c.len.ensures.value) (then_mode hook.chain hook.mode ∙ sym (mode_on-view s c.args.interface hook c.self.invariant here))
+    rw (← c.self.view_is, c.then_some.ensures, c.len.ensures.value) (then_mode hook.chain hook.mode ∙ sym (mode_on-view s c.args.interface hook c.self.invariant here))

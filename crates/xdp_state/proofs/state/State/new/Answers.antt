@@ -1,9 +1,9 @@
+use Rattle.std.proofs.Common.{refl}
 use Rattle.xdp_state.proofs.Attaching.{view-new, whole-new}
 use Rattle.xdp_state.proofs.state.State.new.Goals as goal
-use Rattle.std.proofs.Common.{refl}
 
 pub invariant_of-result : goal.invariant_of-result
-invariant_of-result c = whole-new _ c.no_hooks.ensures refl
+invariant_of-result c = whole-new _ c.in_ok-no_hooks.ensures refl
 
 pub returns : goal.returns
-returns c = view-new _ c.no_hooks.ensures c.new.ensures refl
+returns c = view-new _ _ c.in_ok-no_hooks.ensures c.in_ok-new.ensures
