@@ -1,5 +1,6 @@
 -- The lines of `xdp-loader`, by the words behind the first.
 use Rattle.std.specs.Prelude.{ℕ, ◌==◌, Bool, not, List, Option, Some, None, is_some, Result, Ok, Err, if◌then◌else◌}
+use Rattle.std.specs.List.{list_all}
 use Rattle.xdp_state.specs.declared.mode.Mode.TheVariants.{Native}
 use Rattle.xdp_state.specs.declared.command.Command.{Command}
 use Rattle.xdp_state.specs.declared.command.Command.TheVariants.{LoaderLoad, LoaderUnload, LoaderStatus}
@@ -7,14 +8,16 @@ use Rattle.script_text.specs.Names.{is_name}
 use Rattle.script_text.specs.Objects.{object_place}
 use Rattle.script_text.specs.Options.{Arranged, PlainWords}
 use Rattle.script_text.specs.Readings.{◌>>=◌, both, if_given, keeps, or_else}
+use Rattle.script_text.specs.Words.{is_printable}
 use Rattle.script_text.specs.declared.options.Given.{Given}
 use Rattle.script_text.specs.declared.options.Verb.{Verb}
 use Rattle.script_text.specs.declared.options.Verb.TheVariants as verb
 
--- A program of an object for an interface. The mode is native where no option says otherwise; without a priority or actions those of the
+-- A program of an object, whose name is printable as the line is, for an interface. The mode is native where no option says otherwise; without a priority or actions those of the
 -- program hold.
 unfoldable pub load_of : List (List ℕ) → Given → PlainWords → List ℕ → List ℕ → Result Command ℕ
 load_of objects given plain name object =
+    keeps 1 (list_all is_printable object) >>= λ _.
     both (keeps 5 (is_name name)) (both (or_else given.mode Native) (both (if_given given.priority) (if_given given.actions)))
     >>= λ read. Ok (LoaderLoad (record {
       interface = name;

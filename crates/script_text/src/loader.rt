@@ -1,7 +1,9 @@
-ghost use Rattle.std.specs.Prelude.{◌≡◌, true, IfOk};
+ghost use Rattle.std.specs.Prelude.{◌≡◌, true, IfOk, IfSome, OnOk};
+ghost use Rattle.std.specs.List.{list_all};
 ghost use Rattle.script_text.specs.Loader.{is_one_of, load_of, loader_command, status_of, unload_of};
 ghost use Rattle.script_text.specs.Readings.{Reads};
 ghost use Rattle.script_text.specs.WordViews.{arranged_of, plain_of, word_of};
+ghost use Rattle.script_text.specs.Words.{is_printable};
 ghost use Rattle.xdp_state.specs.Answer.{rule_fits};
 
 use crate::arranged::{Plain, Words};
@@ -9,8 +11,9 @@ use crate::name::is_name;
 use crate::objects::{NameList, object_place};
 use crate::options::{Given, Verb};
 use crate::reading::{LineEnd, both, if_given, keeps, or_else};
-use crate::rule::{BAD_FORM, BAD_NAME, BAD_UNLOAD};
+use crate::rule::{BAD_BYTE, BAD_FORM, BAD_NAME, BAD_UNLOAD};
 use crate::text::{bytes_if, bytes_of};
+use crate::words::are_printable;
 use std::alloc::Global;
 use xdp_state::{Command, LoadWords, Mode};
 
@@ -25,8 +28,10 @@ fn load_of(
     object: &[u8],
 ) -> Result<Command, LineEnd>
     ensures command { Reads result (load_of objects.now given (plain_of plain.entry) name.now object.now) }
+    ensures object { OnOk result (list_all is_printable object.now ≡ true) }
     ensures flags { IfOk result (λ command. rule_fits command ≡ true) }
 {
+    keeps(BAD_BYTE, are_printable(object))?;
     let mode = or_else(given.mode, Mode::Native);
     let settings = both(if_given(given.priority), if_given(given.actions));
     let ((), (mode, (priority, mask))) = both(
@@ -95,6 +100,7 @@ pub fn loader_command(
     words: Words<'_>,
 ) -> Result<Command, LineEnd>
     ensures command { Reads result (loader_command objects.now verb (arranged_of words.entry)) }
+    ensures object { OnOk result (IfSome (word_of words.entry.plain.second) (λ object. list_all is_printable object ≡ true)) }
     ensures flags { IfOk result (λ command. rule_fits command ≡ true) }
 {
     let Words { given, plain } = words;

@@ -4,7 +4,7 @@ use Rattle.std.proofs.lemmas.Bool.{true≢false, false≢true}
 use Rattle.std.specs.Cmp.Lexicographic.{pointwise}
 use Rattle.std.specs.Prelude.{nat_eq}
 use Rattle.std.proofs.lemmas.Slice.Eq.{bytes_eq-Decides}
-use Rattle.script_text.specs.declared.script.Script.{Script}
+use Rattle.xdp_tool.specs.declared.prepared.Prepared.{Prepared}
 use Rattle.xio.proofs.SetLemmas.{set_at-same}
 use Rattle.xio.specs.Handles.{Handle}
 use Rattle.xio.specs.Lent.{if_told}

@@ -6,7 +6,7 @@ use Rattle.xio.proofs.PrefixLemmas.{prefix_more, prefix_of_front}
 use Rattle.xio.specs.Prefixes.{AppendsPrefix}
 use Rattle.xdp_state.specs.declared.library.Library.{Library}
 use Rattle.xdp_state.specs.Sums.{Past, no_past}
-use Rattle.xdp_state.specs.Traversals.{Standing}
+use Rattle.xdp_state.specs.Standing.{Standing}
 use Rattle.xdp_tool.proofs.Running.{Grows, Ran, ended-put, needs_in, out-front, out-grows, prefix-whole, ran-none, stopped-trace, text_of, trace-split, traces-for-front, traces-grow, traces-none}
 use Rattle.xdp_tool.specs.Order.{AppendsWhole}
 use Rattle.xdp_tool.specs.PhaseEnd.{EndsChoices, EndsText}
@@ -65,10 +65,10 @@ pub none-ordered : (traced : Bool) (library : Library) (phases : List Phase) (ch
 none-ordered traced library phases choices out trace none =
     rw none (stopped-ordered traced library [] no_begun (no_past (length (queues_of library.interfaces))) (standings_of (queues_of library.interfaces)) [] phases out out trace trace (ran-none library) (sym (append-nil out)) (traces-none traced library trace))
 
-pub ended-ordered : (traced : Bool) (library : Library) (done : List Phase) (begun : Begun) (past : Past) (standings : List Standing) (choices now : List (List (List ℕ))) (phase : Phase) (rest : List Phase) (result : Result Unit Stop) (old_out held out old_trace had trace : List ℕ) → Ran library done begun past standings choices → EndsChoices result choices now (needs_in phase) → held ≡ old_out ++ out_for library done choices → EndsText result held out (text_of library past standings phase) → had ≡ old_trace ++ traces_for traced library done choices → EndsText result had trace (traced_text traced (length choices) phase.barrier (at_hand_in standings phase)) → (out ≡ held ++ text_of library past standings phase) ⊎ (trace ≡ had) → Ordered (out_for library (done ++ phase ∷ rest)) (traces_for traced library (done ++ phase ∷ rest)) now old_out out old_trace trace
+pub ended-ordered : (traced : Bool) (library : Library) (done : List Phase) (begun : Begun) (past : Past) (standings : List Standing) (choices now : List (List (List ℕ))) (phase : Phase) (rest : List Phase) (result : Result Unit Stop) (old_out held out old_trace had trace : List ℕ) → Ran library done begun past standings choices → EndsChoices result choices now (needs_in phase) → held ≡ old_out ++ out_for library done choices → EndsText result held out (text_of library past standings phase) → had ≡ old_trace ++ traces_for traced library done choices → EndsText result had trace (traced_text traced (length choices) phase.barrier (at_hand_in library standings phase)) → (out ≡ held ++ text_of library past standings phase) ⊎ (trace ≡ had) → Ordered (out_for library (done ++ phase ∷ rest)) (traces_for traced library (done ++ phase ∷ rest)) now old_out out old_trace trace
 ended-ordered traced library done begun past standings choices now phase rest result old_out held out old_trace had trace ran counts is text was traces order =
     end-ordered (out_for library (done ++ phase ∷ rest)) (traces_for traced library (done ++ phase ∷ rest)) choices now (needs_in phase)
-    (text_of library past standings phase) (traced_text traced (length choices) phase.barrier (at_hand_in standings phase)) result old_out held out old_trace had trace
+    (text_of library past standings phase) (traced_text traced (length choices) phase.barrier (at_hand_in library standings phase)) result old_out held out old_trace had trace
     (out-grows library done begun past standings choices phase rest ran) (traces-grow traced library done begun past standings choices phase rest ran) counts
     (is ∙ ap (λ t. old_out ++ t) (sym (out-front library done (phase ∷ rest) choices ran.covered))) text
     (was ∙ ap (λ t. old_trace ++ t) (sym (traces-for-front traced library done (phase ∷ rest) choices ran.covered))) traces order

@@ -5,7 +5,8 @@ use Rattle.std.specs.Prelude.{if◌then◌else◌}
 use Rattle.xio.specs.Prefixes.{AppendsPrefix}
 use Rattle.xdp_state.specs.Legal.{AreLegalAfter, AreLegalFrom, AreLegal}
 use Rattle.xdp_state.specs.Sums.{Past, no_past, past_with}
-use Rattle.xdp_state.specs.Traversals.{Standing, standings_in}
+use Rattle.xdp_state.specs.Standing.{Standing}
+use Rattle.xdp_state.specs.Traversals.{standings_in}
 use Rattle.xdp_state.specs.Work.{all_needs}
 use Rattle.xdp_state.specs.declared.library.Library.{Library}
 use Rattle.xdp_tool.proofs.Counts.{AllWithin, lasts_after, lasts_after-more, lasts-within, legal-more, legal-front, legal-steady, plans}
@@ -27,7 +28,7 @@ pub record Ran (library : Library) (done : List Phase) (begun : Begun) (past : P
   pub covered : length choices ≡ length done
   pub legal : AreLegalAfter [] (plans done) choices
   pub lasts : AllWithin (length begun.published) (lasts_after [] choices)
-  pub stands : standings ≡ standings_after (standings_of (queues_of library.interfaces)) done choices
+  pub stands : standings ≡ standings_after library (standings_of (queues_of library.interfaces)) done choices
   pub counted : past ≡ past_after (no_past (length (queues_of library.interfaces))) (traversed library done choices)
   pub refused : begun.refused ≡ has_refusal done
 
@@ -45,30 +46,30 @@ needs_in phase = all_needs phase.work.hand_ins
 
 -- what is printed of a phase whose packets were carried at hand-in
 abbrev pub text_of : Library → Past → List Standing → Phase → List ℕ
-text_of library past standings phase = phase_text library phase past (past_with past (at_hand_in standings phase))
+text_of library past standings phase = phase_text library phase past (past_with past (at_hand_in library standings phase))
 
 legal-this : (library : Library) (done : List Phase) (begun : Begun) (past : Past) (standings : List Standing) (choices : List (List (List ℕ))) (phase : Phase) → Ran library done begun past standings choices → Steps begun phase → AreLegalFrom (lasts_after [] choices) (length phase.work.published) (needs_in phase) (needs_in phase)
 legal-this library done begun past standings choices phase ran steps =
     legal-steady (length begun.published) (length phase.work.published) (lasts_after [] choices) phase.work.hand_ins ran.lasts steps.steady
 
-traversed-more : (library : Library) (done : List Phase) (begun : Begun) (past : Past) (standings : List Standing) (choices : List (List (List ℕ))) (phase : Phase) (rest : List Phase) → Ran library done begun past standings choices → traversed library (done ++ phase ∷ rest) (choices ++ needs_in phase ∷ []) ≡ traversed library done choices ++ at_hand_in standings phase ∷ []
+traversed-more : (library : Library) (done : List Phase) (begun : Begun) (past : Past) (standings : List Standing) (choices : List (List (List ℕ))) (phase : Phase) (rest : List Phase) → Ran library done begun past standings choices → traversed library (done ++ phase ∷ rest) (choices ++ needs_in phase ∷ []) ≡ traversed library done choices ++ at_hand_in library standings phase ∷ []
 traversed-more library done begun past standings choices phase rest ran =
-    rw ran.stands (traversals-more (standings_of (queues_of library.interfaces)) done phase rest choices (needs_in phase) ran.covered)
+    rw ran.stands (traversals-more library (standings_of (queues_of library.interfaces)) done phase rest choices (needs_in phase) ran.covered)
 
 length-carried : (library : Library) (done : List Phase) (choices : List (List (List ℕ))) → length choices ≡ length done → length (traversed library done choices) ≡ length done
-length-carried library done choices same = length-traversals (standings_of (queues_of library.interfaces)) done choices same
+length-carried library done choices same = length-traversals library (standings_of (queues_of library.interfaces)) done choices same
 
 -- a phase more
-pub ran-more : (library : Library) (done : List Phase) (begun : Begun) (past : Past) (standings : List Standing) (choices : List (List (List ℕ))) (phase : Phase) → Ran library done begun past standings choices → Steps begun phase → Ran library (done ++ phase ∷ []) (begun_after begun phase) (past_with past (at_hand_in standings phase)) (standings_in phase.work.published standings phase.work.hand_ins (needs_in phase)) (choices ++ needs_in phase ∷ [])
+pub ran-more : (library : Library) (done : List Phase) (begun : Begun) (past : Past) (standings : List Standing) (choices : List (List (List ℕ))) (phase : Phase) → Ran library done begun past standings choices → Steps begun phase → Ran library (done ++ phase ∷ []) (begun_after begun phase) (past_with past (at_hand_in library standings phase)) (standings_in library phase.work.published standings phase.work.hand_ins (needs_in phase)) (choices ++ needs_in phase ∷ [])
 ran-more library done begun past standings choices phase ran steps = record {
   covered = omega (arith, length-append choices (needs_in phase ∷ []), length-append done (phase ∷ []), ran.covered);
   legal = legal-more [] done phase [] choices (needs_in phase) ran.covered ran.legal (legal-this library done begun past standings choices phase ran steps);
   lasts = rw (lasts_after-more [] choices (needs_in phase))
       (lasts-within (length begun.published) (length phase.work.published) (lasts_after [] choices) phase.work.hand_ins steps.grown ran.lasts steps.steady);
-  stands = ap (λ ss. standings_in phase.work.published ss phase.work.hand_ins (needs_in phase)) ran.stands
-      ∙ sym (standings_after-more (standings_of (queues_of library.interfaces)) done phase choices (needs_in phase) ran.covered);
-  counted = ap (λ p. past_with p (at_hand_in standings phase)) ran.counted
-      ∙ sym (past_after-more (no_past (length (queues_of library.interfaces))) (traversed library done choices) (at_hand_in standings phase))
+  stands = ap (λ ss. standings_in library phase.work.published ss phase.work.hand_ins (needs_in phase)) ran.stands
+      ∙ sym (standings_after-more library (standings_of (queues_of library.interfaces)) done phase choices (needs_in phase) ran.covered);
+  counted = ap (λ p. past_with p (at_hand_in library standings phase)) ran.counted
+      ∙ sym (past_after-more (no_past (length (queues_of library.interfaces))) (traversed library done choices) (at_hand_in library standings phase))
       ∙ ap (past_after (no_past (length (queues_of library.interfaces)))) (sym (traversed-more library done begun past standings choices phase [] ran));
   refused = rw (refusal-more done phase, ← ran.refused) refl;
 }
@@ -89,25 +90,25 @@ stopped-legal library done begun past standings choices rest ran = legal-front [
 pub out-more : (library : Library) (done : List Phase) (begun : Begun) (past : Past) (standings : List Standing) (choices : List (List (List ℕ))) (phase : Phase) (rest : List Phase) → Ran library done begun past standings choices → out_for library (done ++ phase ∷ rest) (choices ++ needs_in phase ∷ []) ≡ out_for library done choices ++ text_of library past standings phase
 out-more library done begun past standings choices phase rest ran =
     ap (texts_from library (no_past (length (queues_of library.interfaces))) (done ++ phase ∷ rest)) (traversed-more library done begun past standings choices phase rest ran)
-    ∙ texts-more library (no_past (length (queues_of library.interfaces))) done phase rest (traversed library done choices) (at_hand_in standings phase) (length-carried library done choices ran.covered)
-    ∙ ap (λ p. out_for library done choices ++ phase_text library phase p (past_with p (at_hand_in standings phase))) (sym ran.counted)
+    ∙ texts-more library (no_past (length (queues_of library.interfaces))) done phase rest (traversed library done choices) (at_hand_in library standings phase) (length-carried library done choices ran.covered)
+    ∙ ap (λ p. out_for library done choices ++ phase_text library phase p (past_with p (at_hand_in library standings phase))) (sym ran.counted)
 
 pub out-front : (library : Library) (done rest : List Phase) (choices : List (List (List ℕ))) → length choices ≡ length done → out_for library (done ++ rest) choices ≡ out_for library done choices
 out-front library done rest choices same =
-    ap (texts_from library (no_past (length (queues_of library.interfaces))) (done ++ rest)) (traversals-front (standings_of (queues_of library.interfaces)) done rest choices same)
+    ap (texts_from library (no_past (length (queues_of library.interfaces))) (done ++ rest)) (traversals-front library (standings_of (queues_of library.interfaces)) done rest choices same)
     ∙ texts-front library (no_past (length (queues_of library.interfaces))) done rest (traversed library done choices) (length-carried library done choices same)
 
-pub traces-for-more : (traced : Bool) (library : Library) (done : List Phase) (begun : Begun) (past : Past) (standings : List Standing) (choices : List (List (List ℕ))) (phase : Phase) (rest : List Phase) → Ran library done begun past standings choices → traces_for traced library (done ++ phase ∷ rest) (choices ++ needs_in phase ∷ []) ≡ traces_for traced library done choices ++ traced_text traced (length choices) phase.barrier (at_hand_in standings phase)
+pub traces-for-more : (traced : Bool) (library : Library) (done : List Phase) (begun : Begun) (past : Past) (standings : List Standing) (choices : List (List (List ℕ))) (phase : Phase) (rest : List Phase) → Ran library done begun past standings choices → traces_for traced library (done ++ phase ∷ rest) (choices ++ needs_in phase ∷ []) ≡ traces_for traced library done choices ++ traced_text traced (length choices) phase.barrier (at_hand_in library standings phase)
 traces-for-more true library done begun past standings choices phase rest ran =
     let number : 0 + length (traversed library done choices) ≡ length choices = omega (arith, length-carried library done choices ran.covered, ran.covered) in
     ap (traces_from 0 (done ++ phase ∷ rest)) (traversed-more library done begun past standings choices phase rest ran)
-    ∙ traces-more 0 done phase rest (traversed library done choices) (at_hand_in standings phase) (length-carried library done choices ran.covered)
-    ∙ ap (λ n. traces_for true library done choices ++ traced_text true n phase.barrier (at_hand_in standings phase)) number
+    ∙ traces-more 0 done phase rest (traversed library done choices) (at_hand_in library standings phase) (length-carried library done choices ran.covered)
+    ∙ ap (λ n. traces_for true library done choices ++ traced_text true n phase.barrier (at_hand_in library standings phase)) number
 traces-for-more false library done begun past standings choices phase rest ran = refl
 
 pub traces-for-front : (traced : Bool) (library : Library) (done rest : List Phase) (choices : List (List (List ℕ))) → length choices ≡ length done → traces_for traced library (done ++ rest) choices ≡ traces_for traced library done choices
 traces-for-front true library done rest choices same =
-    ap (traces_from 0 (done ++ rest)) (traversals-front (standings_of (queues_of library.interfaces)) done rest choices same)
+    ap (traces_from 0 (done ++ rest)) (traversals-front library (standings_of (queues_of library.interfaces)) done rest choices same)
     ∙ traces-front 0 done rest (traversed library done choices) (length-carried library done choices same)
 traces-for-front false library done rest choices same = refl
 
@@ -134,10 +135,10 @@ out-grows library done begun past standings choices phase rest ran =
     out-more library done begun past standings choices phase rest ran
     ∙ ap (λ t. t ++ text_of library past standings phase) (sym (out-front library done (phase ∷ rest) choices ran.covered))
 
-pub traces-grow : (traced : Bool) (library : Library) (done : List Phase) (begun : Begun) (past : Past) (standings : List Standing) (choices : List (List (List ℕ))) (phase : Phase) (rest : List Phase) → Ran library done begun past standings choices → Grows (traces_for traced library (done ++ phase ∷ rest)) choices (needs_in phase) (traced_text traced (length choices) phase.barrier (at_hand_in standings phase))
+pub traces-grow : (traced : Bool) (library : Library) (done : List Phase) (begun : Begun) (past : Past) (standings : List Standing) (choices : List (List (List ℕ))) (phase : Phase) (rest : List Phase) → Ran library done begun past standings choices → Grows (traces_for traced library (done ++ phase ∷ rest)) choices (needs_in phase) (traced_text traced (length choices) phase.barrier (at_hand_in library standings phase))
 traces-grow traced library done begun past standings choices phase rest ran =
     traces-for-more traced library done begun past standings choices phase rest ran
-    ∙ ap (λ t. t ++ traced_text traced (length choices) phase.barrier (at_hand_in standings phase)) (sym (traces-for-front traced library done (phase ∷ rest) choices ran.covered))
+    ∙ ap (λ t. t ++ traced_text traced (length choices) phase.barrier (at_hand_in library standings phase)) (sym (traces-for-front traced library done (phase ∷ rest) choices ran.covered))
 
 pub ended-out : (library : Library) (done : List Phase) (begun : Begun) (past : Past) (standings : List Standing) (choices now : List (List (List ℕ))) (phase : Phase) (rest : List Phase) (result : Result Unit Stop) (old held after : List ℕ) → Ran library done begun past standings choices → EndsChoices result choices now (needs_in phase) → held ≡ old ++ out_for library done choices → EndsText result held after (text_of library past standings phase) → PutsText result old after (out_for library (done ++ phase ∷ rest) now)
 ended-out library done begun past standings choices now phase rest result old held after ran counts is ended =
@@ -145,9 +146,9 @@ ended-out library done begun past standings choices now phase rest result old he
     (out-grows library done begun past standings choices phase rest ran) counts
     (is ∙ ap (λ t. old ++ t) (sym (out-front library done (phase ∷ rest) choices ran.covered))) ended
 
-pub ended-trace : (traced : Bool) (library : Library) (done : List Phase) (begun : Begun) (past : Past) (standings : List Standing) (choices now : List (List (List ℕ))) (phase : Phase) (rest : List Phase) (result : Result Unit Stop) (old held after : List ℕ) → Ran library done begun past standings choices → EndsChoices result choices now (needs_in phase) → held ≡ old ++ traces_for traced library done choices → EndsText result held after (traced_text traced (length choices) phase.barrier (at_hand_in standings phase)) → PutsText result old after (traces_for traced library (done ++ phase ∷ rest) now)
+pub ended-trace : (traced : Bool) (library : Library) (done : List Phase) (begun : Begun) (past : Past) (standings : List Standing) (choices now : List (List (List ℕ))) (phase : Phase) (rest : List Phase) (result : Result Unit Stop) (old held after : List ℕ) → Ran library done begun past standings choices → EndsChoices result choices now (needs_in phase) → held ≡ old ++ traces_for traced library done choices → EndsText result held after (traced_text traced (length choices) phase.barrier (at_hand_in library standings phase)) → PutsText result old after (traces_for traced library (done ++ phase ∷ rest) now)
 ended-trace traced library done begun past standings choices now phase rest result old held after ran counts is ended =
-    ended-put (traces_for traced library (done ++ phase ∷ rest)) choices now (needs_in phase) (traced_text traced (length choices) phase.barrier (at_hand_in standings phase)) result old held after
+    ended-put (traces_for traced library (done ++ phase ∷ rest)) choices now (needs_in phase) (traced_text traced (length choices) phase.barrier (at_hand_in library standings phase)) result old held after
     (traces-grow traced library done begun past standings choices phase rest ran) counts
     (is ∙ ap (λ t. old ++ t) (sym (traces-for-front traced library done (phase ∷ rest) choices ran.covered))) ended
 

@@ -1,7 +1,7 @@
 -- What a run promises by its end, and by what is said of it.
 use Rattle.std.proofs.Common.{◌≡◌, ◌⊎◌, ℕ, Bool, true, false, inl, inr, List, [], append-nil, length, Result, Ok, Err, Option, Some, None, IfSome, OnOk, refl, sym, ap, ◌∙◌}
 use Rattle.std.proofs.lemmas.Bool.{false≢true}
-use Rattle.script_text.specs.declared.script.Script.{Script}
+use Rattle.xdp_tool.specs.declared.prepared.Prepared.{Prepared}
 use Rattle.script_text.specs.Readings.{◌>>=◌}
 use Rattle.xio.specs.Told.{Told}
 use Rattle.xdp_tool.specs.Ending.{status_of}
@@ -18,12 +18,12 @@ use Rattle.xdp_tool.specs.declared.perform.Stop.{Stop}
 use Rattle.xdp_tool.specs.declared.perform.Stop.TheVariants.{Fault, OutOfMemory}
 
 -- a script that was performed
-pub decided-by : (script : Script) (choices : List (List (List ℕ))) (performed : Result Bool Stop) → Performs (plan script) choices performed → is_decided (status_of (ending_of performed)) ≡ true → ending_of performed ≡ ending_after (Ok script)
+pub decided-by : (script : Prepared) (choices : List (List (List ℕ))) (performed : Result Bool Stop) → Performs (plan script) choices performed → is_decided (status_of (ending_of performed)) ≡ true → ending_of performed ≡ ending_after (Ok script)
 decided-by script choices (Ok refused) performs decided = ap ending.Done performs.refused
 decided-by script choices (Err Fault) performs decided = absurd (false≢true decided)
 decided-by script choices (Err OutOfMemory) performs decided = absurd (false≢true decided)
 
-pub explained-by : (script : Script) (choices : List (List (List ℕ))) (performed : Result Bool Stop) → Performs (plan script) choices performed → IsExplained (Ok script) (status_of (ending_of performed)) choices Whole
+pub explained-by : (script : Prepared) (choices : List (List (List ℕ))) (performed : Result Bool Stop) → Performs (plan script) choices performed → IsExplained (Ok script) (status_of (ending_of performed)) choices Whole
 explained-by script choices (Ok refused) performs = record { whole = λ decided. refl; covered = λ decided. performs.covered; legal = performs.legal }
 explained-by script choices (Err Fault) performs =
     record { whole = λ decided. refl; covered = λ decided. absurd (false≢true decided); legal = performs.legal }

@@ -3,10 +3,12 @@ use Rattle.std.specs.Prelude.{◌≡◌, ℕ, ◌≤◌, List, ◌∷◌, [], le
 use Rattle.script_text.specs.declared.what.Line.{Line}
 use Rattle.xdp_state.specs.Book.{after}
 use Rattle.xdp_state.specs.Sums.{Past, past_with}
-use Rattle.xdp_state.specs.Traversals.{Standing, carried_in}
+use Rattle.xdp_state.specs.Standing.{Standing}
+use Rattle.xdp_state.specs.Traversals.{carried_in}
 use Rattle.xdp_state.specs.Work.{all_needs}
 use Rattle.xdp_state.specs.declared.carried.Carried.{Carried}
 use Rattle.xdp_state.specs.declared.change.Change.{Change}
+use Rattle.xdp_state.specs.declared.library.Library.{Library}
 use Rattle.xdp_tool.specs.Carrying.{StandsAt}
 use Rattle.xdp_tool.specs.Closing.{Shows}
 use Rattle.xdp_tool.specs.Plan.{Phase, closed, phases_from}
@@ -59,6 +61,6 @@ pub record Ends (run : Run) (begun : Begun) (past : Past) (standings : List Stan
       ∷ phases_behind run.walk.script.now.library barrier phase (drop run.walk.next run.walk.script.now.lines)
 
 -- the packets of a phase, each carried with as many publications as there were at its hand-in
-abbrev pub at_hand_in : List Standing → Phase → List (List Carried)
-at_hand_in standings phase =
-    carried_in phase.work.published standings phase.work.hand_ins (all_needs phase.work.hand_ins)
+abbrev pub at_hand_in : Library → List Standing → Phase → List (List Carried)
+at_hand_in library standings phase =
+    carried_in library phase.work.published standings phase.work.hand_ins (all_needs phase.work.hand_ins)

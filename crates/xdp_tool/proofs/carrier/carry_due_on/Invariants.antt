@@ -1,6 +1,6 @@
 use Rattle.std.proofs.Common.{◌≡◌, ◌-◌, List, length, take}
 use Rattle.xdp_state.specs.Book.{after}
-use Rattle.xdp_state.specs.Traversals.{Standing}
+use Rattle.xdp_state.specs.Standing.{Standing}
 use Rattle.xdp_state.specs.declared.change.Change.{Change}
 use Rattle.xdp_tool.specs.Carrying.{IsUpTo}
 use Rattle.xdp_tool.proofs.carrier.carry_due_on.Given as goal

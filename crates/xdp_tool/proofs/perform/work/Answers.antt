@@ -1,5 +1,5 @@
 use Rattle.std.proofs.Common.{[], ◌∷◌, ◌++◌, length, Ok, Err, ap, sym, ◌∙◌, refl, arith, append-nil, not}
-use Rattle.script_text.specs.declared.script.Script.{Script}
+use Rattle.xdp_tool.specs.declared.prepared.Prepared.{Prepared}
 use Rattle.xdp_state.specs.Sums.{no_past, past_with}
 use Rattle.xdp_state.specs.Traversals.{standings_in}
 use Rattle.xdp_tool.proofs.Ordering.{ended-ordered, none-ordered, stopped-ordered}
@@ -173,7 +173,7 @@ phases-preserved g c =
       plan_is = rw c.end_phase.ensures.same_next (plan-more library (plan c.args.script.now) inv.done ends.phase c.in-Ok-walk_phase.barrier _ (ap not c.is_none.ensures ∙ ap (λ r. not (not r)) c.if-is_none.false) whole);
       same = script;
       room = record {
-        within = omega (arith, room.within, c.end_phase.ensures.same_next, ap (λ (s : Script). length s.lines) c.end_phase.ensures.same);
+        within = omega (arith, room.within, c.end_phase.ensures.same_next, ap (λ (s : Prepared). length s.lines) c.end_phase.ensures.same);
         published = omega (arith, room.published, c.end_phase.ensures.same_next, ap (λ b. b.count) c.end_phase.ensures.same_state);
         packets = omega (arith, room.packets, c.end_phase.ensures.same_next, c.end_phase.ensures.same_packets);
       };

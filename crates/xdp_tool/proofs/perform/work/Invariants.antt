@@ -1,6 +1,6 @@
 use Rattle.std.proofs.Common.{◌≡◌, ◌≤◌, ◌-◌, ◌++◌, List, drop, length, IsTrue}
 use Rattle.xdp_state.specs.Sums.{Past}
-use Rattle.xdp_state.specs.Traversals.{Standing}
+use Rattle.xdp_state.specs.Standing.{Standing}
 use Rattle.xdp_tool.proofs.Running.{Ran}
 use Rattle.xdp_tool.specs.Plan.{Phase, phases_from, plan}
 use Rattle.xdp_tool.specs.Ran.{HasRoom, Stands}

@@ -1,6 +1,6 @@
 use Rattle.std.proofs.Common.{◌≡◌, ◌+◌, ◌++◌, List, length, take}
 use Rattle.xdp_state.specs.Book.{AllTaken, after}
-use Rattle.xdp_state.specs.Traversals.{Standing}
+use Rattle.xdp_state.specs.Standing.{Standing}
 use Rattle.xdp_state.specs.declared.change.Change.{Change}
 use Rattle.xdp_tool.specs.Carrying.{AllUpTo, AreDue, StandsAt}
 use Rattle.xdp_tool.proofs.carrier.Carrier.carry.Given as goal

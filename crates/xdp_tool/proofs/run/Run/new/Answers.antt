@@ -1,6 +1,6 @@
 use Rattle.std.proofs.Common.{◌≡◌, [], length, map, refl, sym, ap, ◌∙◌}
 use Rattle.std.proofs.lemmas.List.{length-map, length-replicate}
-use Rattle.script_text.specs.declared.script.Script.{Script}
+use Rattle.xdp_tool.specs.declared.prepared.Prepared.{Prepared}
 use Rattle.xdp_state.specs.Sums.{no_past, sums_of}
 use Rattle.xdp_tool.specs.QueueView.{queue_of}
 use Rattle.xdp_tool.specs.Queues.{queues_of}
@@ -20,7 +20,7 @@ returns-clause-start c =
         state = c.in_ok-new-2.ensures;
         carrier = rw (c.as_slice.ensures, all) at c.in_ok-new-3.ensures;
         standing = rw c.in_ok-new.ensures.same (length-map queues standing_of);
-        library = ap (λ (s : Script). s.interfaces) (sym c.in_ok-new.ensures.same);
+        library = ap (λ (s : Prepared). s.interfaces) (sym c.in_ok-new.ensures.same);
         waiting = c.in_ok-new-6.ensures;
       };
       rests = record {

@@ -1,6 +1,6 @@
 use Rattle.std.proofs.Common.{◌≡◌, ◌≤◌, ◌-◌, List, drop, length}
 use Rattle.xdp_state.specs.Sums.{Past}
-use Rattle.xdp_state.specs.Traversals.{Standing}
+use Rattle.xdp_state.specs.Standing.{Standing}
 use Rattle.xdp_tool.specs.Plan.{Phase, phases_from}
 use Rattle.xdp_tool.specs.Ran.{HasRoom, Stands}
 use Rattle.xdp_tool.specs.Walked.{Begun}
