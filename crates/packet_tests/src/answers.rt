@@ -55,7 +55,7 @@ fn library(alloc: Global) -> Result<Library, OutOfMemory>
 }
 
 /// The answer, or none where a rule's flags aren't of its kind.
-fn judged(state: &State, library: &Library, command: &Command) -> Option<Judgement>
+pub(crate) fn judged(state: &State, library: &Library, command: &Command) -> Option<Judgement>
     requires { IsSound library.now }
 {
     if !rule_fits(command) || library.interfaces.len() > 8 {

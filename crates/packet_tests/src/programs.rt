@@ -1,7 +1,9 @@
 //! Programs in chains: what comes of loads and unloads, and of packets.
-ghost use Rattle.std.specs.Prelude.{◌≡◌, ◌≤◌, length, IfOk};
-ghost use Rattle.xdp_state.specs.Library.{IsSound};
+ghost use Rattle.std.specs.Prelude.{◌≡◌, ◌≤◌, All, length, IfOk};
+ghost use Rattle.object_load.specs.Load.{IsRunnable};
+ghost use Rattle.xdp_state.specs.Library.{IsSound, programs_in};
 
+use crate::answers::judged;
 use bpf_machine::Cause;
 use filter_rules::Policy;
 use lists::{Bytes, OutOfMemory};
@@ -10,7 +12,7 @@ use std::alloc::Global;
 use std::test::Fail;
 use xdp_state::{
     Command, Interface, InterfaceList, Judgement, Library, LoadWords, Loaded, Mode, ObjectRow, Own,
-    Packet, Reason, State, judge, traverse,
+    Packet, Reason, State, traverse,
 };
 use xio::Action;
 
@@ -99,15 +101,22 @@ fn library(alloc: Global, objects: &[Bytes]) -> Result<Library, OutOfMemory>
     })?;
     let mut library = Library::new(alloc, interfaces);
     for bytes in objects {
-        let loaded = match programs_of(alloc, bytes.as_slice()) {
-            Ok(programs) => Loaded::Programs(programs),
-            Err(LoadEnd::Refused(refusal)) => Loaded::Refused(refusal),
-            Err(LoadEnd::OutOfMemory) => return Err(OutOfMemory),
-        };
         let name = text(alloc, b"o")?;
+        let loaded = loaded(alloc, bytes.as_slice())?;
         library.add(ObjectRow { name, loaded })?;
     }
     Ok(library)
+}
+
+/// What an object's bytes give.
+fn loaded(alloc: Global, bytes: &[u8]) -> Result<Loaded, OutOfMemory>
+    ensures { IfOk result (λ loaded. All IsRunnable (programs_in loaded)) }
+{
+    match programs_of(alloc, bytes) {
+        Ok(programs) => Ok(Loaded::Programs(programs)),
+        Err(LoadEnd::Refused(refusal)) => Ok(Loaded::Refused(refusal)),
+        Err(LoadEnd::OutOfMemory) => Err(OutOfMemory),
+    }
 }
 
 /// A command on eth0.
@@ -150,16 +159,13 @@ fn step(
     requires { IsSound library.now }
 {
     let command = command(alloc, asked)?;
-    if library.interfaces.len() > 8 || matches!(command, Command::FilterRule { .. }) {
-        return Ok(Ok(0));
-    }
-    Ok(match judge(state, library, &command) {
-        Judgement::Accepted(change) => {
+    Ok(match judged(state, library, &command) {
+        Some(Judgement::Accepted(change)) => {
             state.absorb(&change);
             Ok(state.count())
         }
-        Judgement::Shown => Ok(0),
-        Judgement::Refused(reason) => Err(reason),
+        Some(Judgement::Refused(reason)) => Err(reason),
+        Some(Judgement::Shown) | None => Ok(0),
     })
 }
 

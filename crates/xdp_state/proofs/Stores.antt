@@ -197,7 +197,7 @@ pub with_maps-set : (stores : List MemberMaps) (number place : ℕ) (entry : Mem
 with_maps-set [] number place entry maps at is = absurd cc
 with_maps-set (e ∷ stores) number place entry maps at is = by (e.number == number) place refl at is (λ k at is. with_maps-set stores number k entry maps at is) where
   by : (b : Bool) (place : ℕ) → (e.number == number) ≡ b → position_or_len (λ e. e.number == number) (e ∷ stores) ≡ place → slice_get (e ∷ stores) place ≡ Some entry
-    → ((k : ℕ) → position_or_len (λ e. e.number == number) stores ≡ k → slice_get stores k ≡ Some entry → slice_set stores k (record entry { maps = maps }) ≡ with_maps stores number maps) → slice_set (e ∷ stores) place (record entry { maps = maps }) ≡ with_maps (e ∷ stores) number maps
+      → ((k : ℕ) → position_or_len (λ e. e.number == number) stores ≡ k → slice_get stores k ≡ Some entry → slice_set stores k (record entry { maps = maps }) ≡ with_maps stores number maps) → slice_set (e ∷ stores) place (record entry { maps = maps }) ≡ with_maps (e ∷ stores) number maps
   by true zero h at is rest = let same : e ≡ entry = cc in rw h (ap (λ (x : MemberMaps). record x { maps = maps } ∷ stores) (sym same))
   by true (suc k) h at is rest = absurd (let none : 0 ≡ suc k = rw h at at in omega arith)
   by false zero h at is rest = absurd (let some : 1 + position_or_len (λ e. e.number == number) stores ≡ 0 = rw h at at in omega arith)
@@ -209,7 +209,7 @@ pub maps_of-at : (stores : List MemberMaps) (number place : ℕ) (entry : Member
 maps_of-at [] number place entry at is = absurd cc
 maps_of-at (e ∷ stores) number place entry at is = by (e.number == number) place refl at is (λ k at is. maps_of-at stores number k entry at is) where
   by : (b : Bool) (place : ℕ) → (e.number == number) ≡ b → position_or_len (λ e. e.number == number) (e ∷ stores) ≡ place → slice_get (e ∷ stores) place ≡ Some entry
-    → ((k : ℕ) → position_or_len (λ e. e.number == number) stores ≡ k → slice_get stores k ≡ Some entry → entry_of stores number ≡ Some entry) → entry_of (e ∷ stores) number ≡ Some entry
+      → ((k : ℕ) → position_or_len (λ e. e.number == number) stores ≡ k → slice_get stores k ≡ Some entry → entry_of stores number ≡ Some entry) → entry_of (e ∷ stores) number ≡ Some entry
   by true zero h at is rest = rw h is
   by true (suc k) h at is rest = absurd (let none : 0 ≡ suc k = rw h at at in omega arith)
   by false zero h at is rest = absurd (let some : 1 + position_or_len (λ e. e.number == number) stores ≡ 0 = rw h at at in omega arith)
@@ -333,7 +333,7 @@ entering_suits : (library : Library) (stores : List MemberMaps) (chain rest : Li
 entering_suits library stores chain [] weaker = tt
 entering_suits library stores chain (member ∷ rest) weaker = by (program_of library member) (list_any (suits library member) stores) refl refl (entering_suits library stores chain rest (λ entry some. weaker entry (or_right (suits library member entry) (suits_some library rest entry) some))) where
   by : (o : Option Program) (b : Bool) → program_of library member ≡ o → list_any (suits library member) stores ≡ b → AllByRecursion (λ entry. suits_some library chain entry ≡ true) (entering library rest stores)
-    → AllByRecursion (λ entry. suits_some library chain entry ≡ true) (entering library (member ∷ rest) stores)
+      → AllByRecursion (λ entry. suits_some library chain entry ≡ true) (entering library (member ∷ rest) stores)
   by None b is has later = rw is later
   by (Some program) true is has later = rw (is, has) later
   by (Some program) false is has later =
@@ -371,7 +371,7 @@ stays_there : (library : Library) (chain : List Member) (place : ℕ) (member : 
 stays_there library chain place member [] is any = absurd cc
 stays_there library chain place member (entry ∷ stores) is any = by (suits library member entry) (suits_some library chain entry) refl refl any (λ any. stays_there library chain place member stores is any) where
   by : (b c : Bool) → suits library member entry ≡ b → suits_some library chain entry ≡ c → list_any (suits library member) (entry ∷ stores) ≡ true
-    → (list_any (suits library member) stores ≡ true → list_any (suits library member) (staying library chain stores) ≡ true) → list_any (suits library member) (staying library chain (entry ∷ stores)) ≡ true
+      → (list_any (suits library member) stores ≡ true → list_any (suits library member) (staying library chain stores) ≡ true) → list_any (suits library member) (staying library chain (entry ∷ stores)) ≡ true
   by true true h k any rest = rw (k, h) refl
   by true false h k any rest = absurd (let some : suits_some library chain entry ≡ true = some_suits library chain place member entry is h in cc)
   by false true h k any rest = rw (k, h) (rest (rw h at any))
@@ -394,7 +394,7 @@ ready_among None number entries all any = refl
 ready_among (Some program) number [] all any = absurd cc
 ready_among (Some program) number (entry ∷ entries) all any = by (entry.number == number) refl any (λ any. ready_among (Some program) number entries all.1 any) where
   by : (b : Bool) → (entry.number == number) ≡ b → list_any (λ entry. entry.number == number) (entry ∷ entries) ≡ true
-    → (list_any (λ entry. entry.number == number) entries ≡ true → is_ready_as (Some program) (entry_of entries number) ≡ true) → is_ready_as (Some program) (entry_of (entry ∷ entries) number) ≡ true
+      → (list_any (λ entry. entry.number == number) entries ≡ true → is_ready_as (Some program) (entry_of entries number) ≡ true) → is_ready_as (Some program) (entry_of (entry ∷ entries) number) ≡ true
   by true h any rest = rw h (all.0 h)
   by false h any rest = rw h (rest (rw h at any))
 

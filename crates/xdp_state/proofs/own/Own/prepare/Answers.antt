@@ -10,11 +10,11 @@ returns-clause-ok c =
     let own = c.self.inside in
     let new = c.prepare.new.self in
     on_ok_weaker c.prepare.result (λ stores. rw (← c.self.view_is) (same_carrier
-      (record { processor = own.processor; interface = own.interface; queue = own.queue; stores = new.stores.items })
-      _ new.frame own.machine.frame own.visits.items own.verdict own.target
-      (ap (λ stores. let standing : Standing = record { processor = own.processor; interface = own.interface; queue = own.queue; stores = stores } in standing)
-        (stores ∙ ap (λ chain. prepared c.args.library.now chain own.machine.stores.items) c.chain.ensures))
-      c.prepare.ensures.frame)) c.prepare.ensures.stores
+    (record { processor = own.processor; interface = own.interface; queue = own.queue; stores = new.stores.items })
+    _ new.frame own.machine.frame own.visits.items own.verdict own.target
+    (ap (λ stores. let standing : Standing = record { processor = own.processor; interface = own.interface; queue = own.queue; stores = stores } in standing)
+    (stores ∙ ap (λ chain. prepared c.args.library.now chain own.machine.stores.items) c.chain.ensures))
+    c.prepare.ensures.frame)) c.prepare.ensures.stores
 
 pub returns-clause-ready : goal.returns-clause-ready
 returns-clause-ready c =
@@ -25,7 +25,7 @@ returns-clause-err c =
     let own = c.self.inside in
     let new = c.prepare.new.self in
     on_err_weaker c.prepare.result (λ same. rw (← c.self.view_is) (same_carrier
-      (record { processor = own.processor; interface = own.interface; queue = own.queue; stores = new.stores.items })
-      _ new.frame own.machine.frame own.visits.items own.verdict own.target
-      (ap (λ stores. let standing : Standing = record { processor = own.processor; interface = own.interface; queue = own.queue; stores = stores } in standing) same)
-      c.prepare.ensures.frame)) c.prepare.ensures.err
+    (record { processor = own.processor; interface = own.interface; queue = own.queue; stores = new.stores.items })
+    _ new.frame own.machine.frame own.visits.items own.verdict own.target
+    (ap (λ stores. let standing : Standing = record { processor = own.processor; interface = own.interface; queue = own.queue; stores = stores } in standing) same)
+    c.prepare.ensures.frame)) c.prepare.ensures.err
