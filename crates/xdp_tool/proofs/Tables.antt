@@ -71,12 +71,12 @@ items-step before changes items i d start sat due done place old new taken begin
     }
 
 -- the item at a place, with the table of the state at its count, in front of those behind it
-pub items-front : (library : Library) (past : Past) (published : List Change) (items : List Item) (i : ℕ) (d : Item) (state : Book) → i < length items → state ≡ after (take (get_or items i d).count published) → items_text library past published (drop i items) ≡ (outcome_text (get_or items i d).line (get_or items i d).outcome ++ table_text library past state (get_or items i d).outcome) ++ items_text library past published (drop (i + 1) items)
+pub items-front : (library : Library) (past : Past) (published : List Change) (items : List Item) (i : ℕ) (d : Item) (state : Book) → i < length items → state ≡ after (take (get_or items i d).count published) → items_text library past published (drop i items) ≡ (outcome_text (get_or items i d).line (get_or items i d).outcome ++ table_text library past state (get_or items i d).table) ++ items_text library past published (drop (i + 1) items)
 items-front library past published items i d state below shown =
     let item = get_or items i d in
     let left : drop i items ≡ item ∷ drop (i + 1) items = drop_more items i d below in
     ap (items_text library past published) left
-    ∙ ap (λ b. (outcome_text item.line item.outcome ++ table_text library past b item.outcome) ++ items_text library past published (drop (i + 1) items)) (sym shown)
+    ∙ ap (λ b. (outcome_text item.line item.outcome ++ table_text library past b item.table) ++ items_text library past published (drop (i + 1) items)) (sym shown)
 
 -- behind the last item
 pub items-none : (library : Library) (past : Past) (published : List Change) (items : List Item) (i : ℕ) → length items ≤ i → items_text library past published (drop i items) ≡ []

@@ -11,6 +11,8 @@ use Rattle.xdp_state.specs.declared.library.Library.{Library}
 use Rattle.xdp_state.specs.declared.judgement.Judgement.{Judgement}
 use Rattle.xdp_state.specs.declared.judgement.Judgement.TheVariants.{Accepted, Shown, Refused}
 use Rattle.xdp_tool.specs.Plan.{Phase, closed, phases_from, with_answer, with_what}
+use Rattle.xdp_tool.specs.Table.{table_of}
+use Rattle.xdp_tool.specs.declared.table.Table.{Table}
 use Rattle.xdp_tool.specs.Turn.{answered, asked, phase_after, turn_of}
 use Rattle.xdp_tool.specs.Walked.{phases_behind}
 use Rattle.xdp_tool.specs.declared.turn.Turn.{Turn}
@@ -27,31 +29,31 @@ lines-at (line ∷ lines) (suc n) = elim (lines-at lines n) [ inl none ↦ inl n
     further first is = let place : suc n + 1 ≡ suc (n + 1) = omega arith in rw place is
 
 -- a turn that doesn't end the phase takes one line
-answer-publishes : (line : ℕ) (judged : Judgement) (phase : Phase) (change : Change) → Publish change ≡ answered judged → (with_answer line judged phase).work.published ≡ phase.work.published ++ change ∷ []
-answer-publishes line (Accepted c) phase change is = let same : c ≡ change = cc in ap (λ x. phase.work.published ++ x ∷ []) same
-answer-publishes line Shown phase change is = absurd cc
-answer-publishes line (Refused reason) phase change is = absurd cc
+answer-publishes : (line : ℕ) (table : Table) (judged : Judgement) (phase : Phase) (change : Change) → Publish change ≡ answered judged → (with_answer line table judged phase).work.published ≡ phase.work.published ++ change ∷ []
+answer-publishes line table (Accepted c) phase change is = let same : c ≡ change = cc in ap (λ x. phase.work.published ++ x ∷ []) same
+answer-publishes line table Shown phase change is = absurd cc
+answer-publishes line table (Refused reason) phase change is = absurd cc
 
 pub turn-publishes : (library : Library) (phase : Phase) (lines : List Line) (change : Change) → Publish change ≡ turn_of library phase lines → (phase_after library phase lines).work.published ≡ phase.work.published ++ change ∷ []
 turn-publishes library phase [] change is = absurd cc
 turn-publishes library phase (line ∷ lines) change is = by_what line.what is
   where
     by_what : (w : What) → Publish change ≡ asked library phase line.line w → (with_what library line.line w phase).work.published ≡ phase.work.published ++ change ∷ []
-    by_what (what.Command command) is = answer-publishes line.line (answer library (after phase.work.published) command) phase change is
+    by_what (what.Command command) is = answer-publishes line.line (table_of library command) (answer library (after phase.work.published) command) phase change is
     by_what (what.Packet processor frame) is = absurd cc
     by_what what.Barrier is = absurd cc
 
-answer-keeps : (line : ℕ) (judged : Judgement) (phase : Phase) → Again ≡ answered judged → (with_answer line judged phase).work.published ≡ phase.work.published
-answer-keeps line (Accepted c) phase is = absurd cc
-answer-keeps line Shown phase is = refl
-answer-keeps line (Refused reason) phase is = refl
+answer-keeps : (line : ℕ) (table : Table) (judged : Judgement) (phase : Phase) → Again ≡ answered judged → (with_answer line table judged phase).work.published ≡ phase.work.published
+answer-keeps line table (Accepted c) phase is = absurd cc
+answer-keeps line table Shown phase is = refl
+answer-keeps line table (Refused reason) phase is = refl
 
 pub turn-again : (library : Library) (phase : Phase) (lines : List Line) → Again ≡ turn_of library phase lines → (phase_after library phase lines).work.published ≡ phase.work.published
 turn-again library phase [] is = absurd cc
 turn-again library phase (line ∷ lines) is = by_what line.what is
   where
     by_what : (w : What) → Again ≡ asked library phase line.line w → (with_what library line.line w phase).work.published ≡ phase.work.published
-    by_what (what.Command command) is = answer-keeps line.line (answer library (after phase.work.published) command) phase is
+    by_what (what.Command command) is = answer-keeps line.line (table_of library command) (answer library (after phase.work.published) command) phase is
     by_what (what.Packet processor frame) is = absurd cc
     by_what what.Barrier is = absurd cc
 

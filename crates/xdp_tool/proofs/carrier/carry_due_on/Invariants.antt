@@ -8,8 +8,8 @@ use Rattle.xdp_tool.proofs.carrier.carry_due_on.Given as goal
 abbrev pub invariant-loop-place : goal.invariant-loop-place
 invariant-loop-place l = record {
   up : (published : List Change) (standing : Standing) → l.state ≡ after (take l.state.count published)
-      → IsUpTo published standing l.hand_ins l.counts l.state.count l.initial.processor
-      → IsUpTo published standing l.hand_ins l.counts l.state.count l.processor;
+      → IsUpTo l.library published standing l.hand_ins l.counts l.state.count l.initial.processor
+      → IsUpTo l.library published standing l.hand_ins l.counts l.state.count l.processor;
   place : l.place ≡ length l.processor.carried;
 }
 

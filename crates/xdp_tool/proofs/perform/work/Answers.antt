@@ -83,7 +83,7 @@ returns-in_err-end_phase-clause-trace g c = λ tells.
     let ends = c.in-Ok-walk_phase.ensures.ends inv.begun inv.past inv.standings inv.phase inv.stands in
     let phase = closed c.in-Ok-walk_phase.barrier ends.phase in
     let whole = inv.plan_is ∙ ap (λ ps. inv.done ++ ps) (rw (c.walk_phase.ensures.same, inv.same) at ends.phases) in
-    rw whole (puts-front c.from_residual.result _ _ _ c.from_residual.ensures.0 (ended-trace c.args.traced library inv.done inv.begun inv.past inv.standings c.phases.choices c.end_phase.new.choices phase _ (Err c.in_err-end_phase.field-0.0) _ _ _ inv.ran (c.in_err-end_phase.ensures.choices inv.begun inv.past inv.standings ends.phase ends.stands) (inv.trace tells) (c.in_err-end_phase.ensures.trace tells inv.begun inv.past inv.standings ends.phase ends.stands)))
+    rw whole (puts-front c.from_residual.result _ _ _ c.from_residual.ensures.0 (ended-trace c.args.traced library inv.done inv.begun inv.past inv.standings c.phases.choices c.end_phase.new.choices phase _ (Err c.in_err-end_phase.field-0.0) _ _ _ inv.ran (c.in_err-end_phase.ensures.choices inv.begun inv.past inv.standings ends.phase ends.stands) (inv.trace tells) (rw (c.walk_phase.ensures.same, inv.same) at (c.in_err-end_phase.ensures.trace tells inv.begun inv.past inv.standings ends.phase ends.stands))))
 
 pub returns-in_err-end_phase-clause-ordered : goal.returns-in_err-end_phase-clause-ordered
 returns-in_err-end_phase-clause-ordered g c = λ told tells.
@@ -92,7 +92,7 @@ returns-in_err-end_phase-clause-ordered g c = λ told tells.
     let ends = c.in-Ok-walk_phase.ensures.ends inv.begun inv.past inv.standings inv.phase inv.stands in
     let phase = closed c.in-Ok-walk_phase.barrier ends.phase in
     let whole = inv.plan_is ∙ ap (λ ps. inv.done ++ ps) (rw (c.walk_phase.ensures.same, inv.same) at ends.phases) in
-    rw whole (ended-ordered c.args.traced library inv.done inv.begun inv.past inv.standings c.phases.choices c.end_phase.new.choices phase _ (Err c.in_err-end_phase.field-0.0) _ _ _ _ _ _ inv.ran (c.in_err-end_phase.ensures.choices inv.begun inv.past inv.standings ends.phase ends.stands) (inv.out told) (rw (c.walk_phase.ensures.same, inv.same) at (c.in_err-end_phase.ensures.out told inv.begun inv.past inv.standings ends.phase ends.stands)) (inv.trace tells) (c.in_err-end_phase.ensures.trace tells inv.begun inv.past inv.standings ends.phase ends.stands) (rw (c.walk_phase.ensures.same, inv.same) at (c.end_phase.ensures.ordered told tells inv.begun inv.past inv.standings ends.phase ends.stands)))
+    rw whole (ended-ordered c.args.traced library inv.done inv.begun inv.past inv.standings c.phases.choices c.end_phase.new.choices phase _ (Err c.in_err-end_phase.field-0.0) _ _ _ _ _ _ inv.ran (c.in_err-end_phase.ensures.choices inv.begun inv.past inv.standings ends.phase ends.stands) (inv.out told) (rw (c.walk_phase.ensures.same, inv.same) at (c.in_err-end_phase.ensures.out told inv.begun inv.past inv.standings ends.phase ends.stands)) (inv.trace tells) (rw (c.walk_phase.ensures.same, inv.same) at (c.in_err-end_phase.ensures.trace tells inv.begun inv.past inv.standings ends.phase ends.stands)) (rw (c.walk_phase.ensures.same, inv.same) at (c.end_phase.ensures.ordered told tells inv.begun inv.past inv.standings ends.phase ends.stands)))
 
 pub returns-then-is_none-clause-legal : goal.returns-then-is_none-clause-legal
 returns-then-is_none-clause-legal g c =
@@ -141,7 +141,7 @@ returns-then-is_none-clause-trace g c = λ tells.
     let ends = c.in-Ok-walk_phase.ensures.ends inv.begun inv.past inv.standings inv.phase inv.stands in
     let phase = closed c.in-Ok-walk_phase.barrier ends.phase in
     let whole = inv.plan_is ∙ ap (λ ps. inv.done ++ ps) (rw (c.walk_phase.ensures.same, inv.same) at ends.phases) in
-    rw whole (ended-trace c.args.traced library inv.done inv.begun inv.past inv.standings c.phases.choices c.end_phase.new.choices phase _ (Ok tt) _ _ _ inv.ran (c.in_ok-end_phase.ensures.choices inv.begun inv.past inv.standings ends.phase ends.stands) (inv.trace tells) (c.in_ok-end_phase.ensures.trace tells inv.begun inv.past inv.standings ends.phase ends.stands))
+    rw whole (ended-trace c.args.traced library inv.done inv.begun inv.past inv.standings c.phases.choices c.end_phase.new.choices phase _ (Ok tt) _ _ _ inv.ran (c.in_ok-end_phase.ensures.choices inv.begun inv.past inv.standings ends.phase ends.stands) (inv.trace tells) (rw (c.walk_phase.ensures.same, inv.same) at (c.in_ok-end_phase.ensures.trace tells inv.begun inv.past inv.standings ends.phase ends.stands)))
 
 pub returns-then-is_none-clause-ordered : goal.returns-then-is_none-clause-ordered
 returns-then-is_none-clause-ordered g c = λ told tells.
@@ -150,7 +150,7 @@ returns-then-is_none-clause-ordered g c = λ told tells.
     let ends = c.in-Ok-walk_phase.ensures.ends inv.begun inv.past inv.standings inv.phase inv.stands in
     let phase = closed c.in-Ok-walk_phase.barrier ends.phase in
     let whole = inv.plan_is ∙ ap (λ ps. inv.done ++ ps) (rw (c.walk_phase.ensures.same, inv.same) at ends.phases) in
-    rw whole (ended-ordered c.args.traced library inv.done inv.begun inv.past inv.standings c.phases.choices c.end_phase.new.choices phase _ (Ok tt) _ _ _ _ _ _ inv.ran (c.in_ok-end_phase.ensures.choices inv.begun inv.past inv.standings ends.phase ends.stands) (inv.out told) (rw (c.walk_phase.ensures.same, inv.same) at (c.in_ok-end_phase.ensures.out told inv.begun inv.past inv.standings ends.phase ends.stands)) (inv.trace tells) (c.in_ok-end_phase.ensures.trace tells inv.begun inv.past inv.standings ends.phase ends.stands) (rw (c.walk_phase.ensures.same, inv.same) at (c.end_phase.ensures.ordered told tells inv.begun inv.past inv.standings ends.phase ends.stands)))
+    rw whole (ended-ordered c.args.traced library inv.done inv.begun inv.past inv.standings c.phases.choices c.end_phase.new.choices phase _ (Ok tt) _ _ _ _ _ _ inv.ran (c.in_ok-end_phase.ensures.choices inv.begun inv.past inv.standings ends.phase ends.stands) (inv.out told) (rw (c.walk_phase.ensures.same, inv.same) at (c.in_ok-end_phase.ensures.out told inv.begun inv.past inv.standings ends.phase ends.stands)) (inv.trace tells) (rw (c.walk_phase.ensures.same, inv.same) at (c.in_ok-end_phase.ensures.trace tells inv.begun inv.past inv.standings ends.phase ends.stands)) (rw (c.walk_phase.ensures.same, inv.same) at (c.end_phase.ensures.ordered told tells inv.begun inv.past inv.standings ends.phase ends.stands)))
 
 pub phases-preserved : goal.phases-preserved
 phases-preserved g c =
@@ -165,8 +165,8 @@ phases-preserved g c =
     record {
       done = inv.done ++ phase ∷ [];
       begun = begun_after inv.begun ends.phase;
-      past = past_with inv.past (at_hand_in inv.standings ends.phase);
-      standings = standings_in ends.phase.work.published inv.standings ends.phase.work.hand_ins (needs_in ends.phase);
+      past = past_with inv.past (at_hand_in c.args.script.now.library inv.standings ends.phase);
+      standings = standings_in c.args.script.now.library ends.phase.work.published inv.standings ends.phase.work.hand_ins (needs_in ends.phase);
       phase = next_of library ends.phase;
       ran = rw counts (ran-more library inv.done inv.begun inv.past inv.standings c.phases.choices phase inv.ran (steps-of _ inv.begun ends.phase c.in-Ok-walk_phase.barrier ends.stands.walks.at));
       stands = (rw (c.walk_phase.ensures.same, inv.same) at (c.in_ok-end_phase.ensures.stands inv.begun inv.past inv.standings ends.phase ends.stands));
@@ -178,7 +178,7 @@ phases-preserved g c =
         packets = omega (arith, room.packets, c.end_phase.ensures.same_next, c.end_phase.ensures.same_packets);
       };
       out = λ tells. ended-out library inv.done inv.begun inv.past inv.standings c.phases.choices c.end_phase.new.choices phase [] (Ok tt) _ _ _ inv.ran counts (inv.out tells) (rw (c.walk_phase.ensures.same, inv.same) at (c.in_ok-end_phase.ensures.out tells inv.begun inv.past inv.standings ends.phase ends.stands));
-      trace = λ tells. ended-trace c.args.traced library inv.done inv.begun inv.past inv.standings c.phases.choices c.end_phase.new.choices phase [] (Ok tt) _ _ _ inv.ran counts (inv.trace tells) (c.in_ok-end_phase.ensures.trace tells inv.begun inv.past inv.standings ends.phase ends.stands);
+      trace = λ tells. ended-trace c.args.traced library inv.done inv.begun inv.past inv.standings c.phases.choices c.end_phase.new.choices phase [] (Ok tt) _ _ _ inv.ran counts (inv.trace tells) (rw (c.walk_phase.ensures.same, inv.same) at (c.in_ok-end_phase.ensures.trace tells inv.begun inv.past inv.standings ends.phase ends.stands));
       out_later = omega (arith, inv.out_later, c.end_phase.ensures.out_later);
       trace_later = omega (arith, inv.trace_later, c.end_phase.ensures.trace_later);
       same_out = c.end_phase.ensures.same_out ∙ inv.same_out;
@@ -189,4 +189,8 @@ pub end_phase-requires : goal.end_phase-requires
 end_phase-requires g c =
     let inv = c.phases.invariant in
     let ends = c.in-Ok-walk_phase.ensures.ends inv.begun inv.past inv.standings inv.phase inv.stands in
-    record { standing = record { begun = inv.begun; past = inv.past; standings = inv.standings; phase = ends.phase; stands = ends.stands } }
+    record {
+      standing = record { begun = inv.begun; past = inv.past; standings = inv.standings; phase = ends.phase; stands = ends.stands };
+      interfaces = rw (c.walk_phase.ensures.same, inv.same) c.requires.script.interfaces;
+      sound = rw (c.walk_phase.ensures.same, inv.same) c.requires.script.sound;
+    }

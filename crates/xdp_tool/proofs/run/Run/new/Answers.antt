@@ -20,7 +20,7 @@ returns-clause-start c =
         state = c.in_ok-new-2.ensures;
         carrier = rw (c.as_slice.ensures, all) at c.in_ok-new-3.ensures;
         standing = rw c.in_ok-new.ensures.same (length-map queues standing_of);
-        library = ap (λ (s : Prepared). s.interfaces) (sym c.in_ok-new.ensures.same);
+        library = ap (λ (s : Prepared). s.library) (sym c.in_ok-new.ensures.same);
         waiting = c.in_ok-new-6.ensures;
       };
       rests = record {
