@@ -9,6 +9,7 @@ pub mod OneTrace
 pub mod Ordering
 pub mod Phases
 pub mod Places
+pub mod Preparing
 pub mod QueueLists
 pub mod Running
 pub mod Tables

@@ -1,7 +1,7 @@
 -- Objects that are loaded, one after another.
-use Rattle.std.proofs.Common.{◌≡◌, ℕ, ◌+◌, ◌<◌, ◌≤◌, Bool, true, false, ◌&&◌, cond, nat_lt, List, [], ◌∷◌, ◌++◌, length, take, get_or, Result, Ok, Err, Option, Some, None, IsTrue, refl, sym, ap, ◌∙◌, arith}
+use Rattle.std.proofs.Common.{◌≡◌, ℕ, ◌+◌, ◌<◌, ◌≤◌, Bool, true, false, ◌&&◌, cond, nat_lt, List, [], ◌∷◌, ◌++◌, length, take, drop, get_or, Result, Ok, Err, Option, Some, None, IsTrue, refl, sym, ap, ◌∙◌, arith}
 use Rattle.std.specs.List.{list_all, slice_get}
-use Rattle.std.proofs.lemmas.List.{take_all, take_more}
+use Rattle.std.proofs.lemmas.List.{take-append-drop, take_all, take_more}
 use Rattle.std.proofs.lemmas.List.Folds.{list_all-append, list_all_at}
 use Rattle.std.proofs.lemmas.Option.{get_or_from_slice_get, slice_get_within}
 use Rattle.script_text.specs.declared.script.Script.{Script}
@@ -10,13 +10,20 @@ use Rattle.xdp_state.specs.declared.interface.Interface.{Interface}
 use Rattle.xdp_state.specs.declared.library.Library.{Library}
 use Rattle.xdp_state.specs.declared.library.Loaded.{Loaded}
 use Rattle.xdp_state.specs.declared.library.ObjectRow.{ObjectRow}
+use Rattle.xio.specs.Told.{Told}
 use Rattle.xdp_tool.specs.Named.{Gives}
 use Rattle.xdp_tool.specs.Objects.{IsLoadEnd, IsObject}
 use Rattle.xdp_tool.specs.Outcome.{AreLoaded, IsLoaded, IsPrepared, is_small, with_objects}
+use Rattle.xdp_tool.specs.Touched.{Reads}
 use Rattle.xdp_tool.specs.declared.ending.Ending.{Ending}
 use Rattle.xdp_tool.specs.declared.ending.Ending.TheVariants.{Done, Usage, BadScript, Fault, OutOfMemory, Limit}
 use Rattle.xdp_tool.specs.declared.ending.LimitName.TheVariants as limit
 use Rattle.xdp_tool.specs.declared.prepared.Prepared.{Prepared}
+use Rattle.xdp_tool.proofs.FilesRead.{reads-as, reads-both, reads-front}
+
+-- the files of these names were read to their ends
+abbrev pub IsReadUpTo : Told → Told → List (List ℕ) → Type 0
+IsReadUpTo old new names = Reads {A = Unit {0}} {E = Ending} old new names (Ok tt)
 
 -- the library has the objects of these names, and nothing else is what their files give
 pub record Loads (content : List ℕ → List ℕ) (names : List (List ℕ)) (objects : List ObjectRow) : Type 0 where
@@ -78,10 +85,13 @@ loads-push content names objects name object loads small is gives only = record 
       ∙ ap (λ o. objects ++ o ∷ []) (row-same p.last object (p.name_is ∙ sym is) (sym (only p.last.loaded p.gives))));
 }
 
+next-name : (names : List (List ℕ)) (place : ℕ) (name : List ℕ) → slice_get names place ≡ Some name → take (place + 1) names ≡ take place names ++ name ∷ []
+next-name names place name here =
+    take_more names place name (slice_get_within names place name here) ∙ ap (λ n. take place names ++ n ∷ []) (get_or_from_slice_get names place name name here)
+
 pub loads-more : (tells : Bool) (content : List ℕ → List ℕ) (names : List (List ℕ)) (place : ℕ) (name : List ℕ) (old new : Library) → slice_get names place ≡ Some name → IsTrue tells → Loads content (take place names) old.objects → IsObject tells content name old new → Loads content (take (place + 1) names) new.objects
 loads-more tells content names place name old new here told loads is =
-    let next : take (place + 1) names ≡ take place names ++ name ∷ [] =
-    take_more names place name (slice_get_within names place name here) ∙ ap (λ n. take place names ++ n ∷ []) (get_or_from_slice_get names place name name here) in
+    let next = next-name names place name here in
     let bytes = is.content_is told in
     rw (next, ap (λ (l : Library). l.objects) is.is.added)
     (loads-push content (take place names) old.objects name is.is.object loads (is.small told) is.is.name_is (rw bytes is.is.loaded) (λ loaded gives. is.is.only loaded (rw bytes at gives)))
@@ -136,3 +146,19 @@ not-loaded content script place name (Limit limit.Lines) prepared few here known
 not-loaded content script place name (Done refused) prepared few here known large is = absurd known
 not-loaded content script place name Usage prepared few here known large is = absurd known
 not-loaded content script place name (BadScript line rule) prepared few here known large is = absurd known
+
+-- one file more, to its end
+pub reads-more : (t t₁ t₂ : Told) (names : List (List ℕ)) (place : ℕ) (name : List ℕ) → slice_get names place ≡ Some name → IsReadUpTo t t₁ (take place names) → Reads {A = Unit {0}} {E = Ending} t₁ t₂ (name ∷ []) (Ok tt) → IsReadUpTo t t₂ (take (place + 1) names)
+reads-more t t₁ t₂ names place name here first second =
+    rw (next-name names place name here) (reads-both t t₁ t₂ (take place names) (name ∷ []) tt (Ok tt) first second)
+
+-- one that ended the run
+pub reads-stopped : (t t₁ t₂ : Told) (names : List (List ℕ)) (place : ℕ) (name : List ℕ) (e : Ending) → slice_get names place ≡ Some name → IsReadUpTo t t₁ (take place names) → Reads {A = Unit {0}} t₁ t₂ (name ∷ []) (Err e) → Reads {A = Prepared} t t₂ names (Err e)
+reads-stopped t t₁ t₂ names place name e here first second =
+    let front : Reads {A = Unit {0}} t t₂ (take (place + 1) names) (Err e) =
+    rw (next-name names place name here) (reads-both t t₁ t₂ (take place names) (name ∷ []) tt (Err e) first second) in
+    rw take-append-drop (place + 1) names at (reads-front {A = Prepared} t t₂ (take (place + 1) names) (drop (place + 1) names) e front)
+
+-- all of them
+pub reads-all : (t t' : Told) (names : List (List ℕ)) (place : ℕ) (prepared : Prepared) → length names ≤ place → IsReadUpTo t t' (take place names) → Reads {E = Ending} t t' names (Ok prepared)
+reads-all t t' names place prepared past reads = reads-as t t' names tt prepared (rw (take_all place names past) at reads)

@@ -61,8 +61,9 @@ pub fn load_objects<F: Files>(
     let mut library = Library::new(alloc, interfaces);
     for place in 0..objects.len() {
         let name = objects.at(place).as_slice();
-        if let Err(ending) = load_object(alloc, files, name, &mut library) {
-            return Err(ending);
+        match load_object(alloc, files, name, &mut library) {
+            Ok(()) => {}
+            Err(ending) => return Err(ending),
         }
     }
     Ok(Prepared { library, lines })

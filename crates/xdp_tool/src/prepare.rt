@@ -47,10 +47,10 @@ pub fn prepare<F: Files>(
         Ok(script) => script,
         Err(ending) => return Err(ending),
     };
-    if let Err(ending) = without_clash(&script, made) {
-        return Err(ending);
+    match without_clash(&script, made) {
+        Ok(()) => load_objects(alloc, files, script),
+        Err(ending) => Err(ending),
     }
-    load_objects(alloc, files, script)
 }
 
 /// The script in the named file.
