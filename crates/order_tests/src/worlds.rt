@@ -310,10 +310,7 @@ fn a_world_goes_from_step_to_step(rt: HostRuntime) -> Result<(), Fail> {
     let library = Library::new(rt.alloc(), interfaces);
     for (asked, want) in EVENTS {
         let event = event_of(rt.alloc(), *asked)?;
-        assert_eq!(rt;
-            step_if_possible(&mut world, &library, &event),
-            Some(*want)
-        );
+        assert_eq!(rt; step_if_possible(&mut world, &library, &event), Some(*want));
     }
     assert_eq!(rt; world.state().count(), 1);
     assert_eq!(rt; world.plan().len(), 1);
