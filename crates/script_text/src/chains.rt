@@ -6,7 +6,7 @@ use crate::piece::{Piece, print_line};
 use crate::vocabulary::mode_name;
 use crate::word_lists::mask_print;
 use std::alloc::Global;
-use xdp_state::{Chain, FILTER_NAME, Kind, Library, Member, Mode, State};
+use xdp_state::{Chain, Kind, Library, Member, Mode, State};
 use xio::{Bytes, OutOfMemory, Printer};
 
 /// The word of a mode, or `-` where there is no member.
@@ -28,7 +28,7 @@ fn kind_name(library: &Library, kind: Kind) -> &[u8]
             Some(program) => program.name.as_slice(),
             None => b"",
         },
-        Kind::Filter { .. } => FILTER_NAME,
+        Kind::Filter { .. } => b"xdp_filter",
     }
 }
 

@@ -35,7 +35,6 @@ pub use interface::{Interface, InterfaceList};
 pub use judgement::{Judgement, Reason};
 pub use library::{Library, Loaded, ObjectList, ObjectRow};
 pub use mode::Mode;
-pub use names::FILTER_NAME;
 pub use own::{Own, traverse};
 pub use packet::{HandIn, HandInList, Packet};
 pub use plan::{Plan, PlanPhase};

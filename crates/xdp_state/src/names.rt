@@ -6,8 +6,7 @@ ghost use Rattle.xdp_state.specs.Library.{IsSound, all_names, is_among, is_last_
 use crate::library::{Library, ObjectRow};
 use object_load::Program;
 
-/// What the filter is called among members.
-pub const FILTER_NAME: &[u8] = b"xdp_filter";
+pub(crate) const FILTER_NAME: &[u8] = b"xdp_filter";
 
 /// How many different names are less than this one, which is one of them. It takes the time of the square of their number.
 pub(crate) fn rank(library: &Library, name: &[u8]) -> u32
