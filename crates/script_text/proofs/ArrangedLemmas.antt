@@ -1,11 +1,7 @@
 -- The words behind a verb, one after the other.
-use Rattle.std.proofs.Common.{◌≡◌, ℕ, false, List, [], ◌∷◌, Result, Ok, Err, refl, sym, ◌∙◌}
-use Rattle.script_text.specs.Options.{Arranged, arrangement, has_value, role_of, given_value, with_word, arranged_behind}
+use Rattle.std.proofs.Common.{◌≡◌, ℕ, true, false, List, [], ◌∷◌, Result, Ok, Err, refl, sym, ◌∙◌}
+use Rattle.script_text.specs.Options.{Arranged, has_value, role_of, with_value, with_word, arranged_behind}
 use Rattle.script_text.specs.Readings.{◌>>=◌}
-use Rattle.script_text.specs.declared.options.Role.{Role}
-use Rattle.script_text.specs.declared.options.Role.TheVariants as role
-use Rattle.script_text.specs.declared.options.Given.{Given}
-use Rattle.script_text.specs.declared.options.Setting.{Setting}
 use Rattle.script_text.specs.declared.options.Verb.{Verb}
 
 bind_ok : (r : Result Arranged ℕ) → (r >>= Ok) ≡ r
@@ -13,22 +9,26 @@ bind_ok (Ok x) = refl
 bind_ok (Err e) = refl
 
 -- a word that has no value behind it
-pub arranged-word : (verb : Verb) (so_far : Arranged) (word : List ℕ) (words : List (List ℕ)) (role : Role) → role_of verb word ≡ role → has_value role ≡ false
-    → arranged_behind verb so_far (word ∷ words) ≡ (with_word so_far role word >>= (λ s. arranged_behind verb s words))
-arranged-word verb so_far word [] role is none = rw is (sym (bind_ok (with_word so_far role word)))
-arranged-word verb so_far word (next ∷ words) role is none = rw (is, none) refl
+arranged-word : (verb : Verb) (so_far : Arranged) (word : List ℕ) (words : List (List ℕ)) → has_value (role_of verb word) ≡ false
+    → arranged_behind verb so_far (word ∷ words) ≡ (with_word so_far (role_of verb word) word >>= (λ s. arranged_behind verb s words))
+arranged-word verb so_far word [] none = sym (bind_ok (with_word so_far (role_of verb word) word))
+arranged-word verb so_far word (next ∷ words) none = rw none refl
 
-pub arranged-read : (verb : Verb) (so_far s : Arranged) (word : List ℕ) (words : List (List ℕ)) (role : Role) → role_of verb word ≡ role
-    → with_word so_far role word ≡ Ok s → arranged_behind verb so_far (word ∷ words) ≡ arranged_behind verb s words
-arranged-read verb so_far s word words role.Own is read = arranged-word verb so_far word words role.Own is refl ∙ rw read refl
-arranged-read verb so_far s word words (role.Switch switch) is read = arranged-word verb so_far word words (role.Switch switch) is refl ∙ rw read refl
-arranged-read verb so_far s word words (role.Setting setting) is read = absurd (cc)
-arranged-read verb so_far s word words role.Unknown is read = absurd (cc)
+pub word-read : (verb : Verb) (so_far s : Arranged) (word : List ℕ) (words : List (List ℕ)) → has_value (role_of verb word) ≡ false
+    → with_word so_far (role_of verb word) word ≡ Ok s → arranged_behind verb so_far (word ∷ words) ≡ arranged_behind verb s words
+word-read verb so_far s word words none read = arranged-word verb so_far word words none ∙ rw read refl
+
+pub word-bad : (verb : Verb) (so_far : Arranged) (rule : ℕ) (word : List ℕ) (words : List (List ℕ)) → has_value (role_of verb word) ≡ false
+    → with_word so_far (role_of verb word) word ≡ Err rule → arranged_behind verb so_far (word ∷ words) ≡ Err rule
+word-bad verb so_far rule word words none bad = arranged-word verb so_far word words none ∙ rw bad refl
 
 -- an option and its value
-pub arranged-pair : (verb : Verb) (so_far : Arranged) (given : Given) (word value : List ℕ) (words : List (List ℕ)) (setting : Setting)
-    → role_of verb word ≡ role.Setting setting → given_value so_far.given setting value ≡ Ok given
-    → arranged_behind verb so_far (word ∷ value ∷ words) ≡ arranged_behind verb (arrangement given so_far.own) words
-arranged-pair verb so_far given word value words setting is read = rw (is, read) refl
+pub value-read : (verb : Verb) (so_far s : Arranged) (word value : List ℕ) (words : List (List ℕ)) → has_value (role_of verb word) ≡ true
+    → with_value so_far (role_of verb word) value ≡ Ok s → arranged_behind verb so_far (word ∷ value ∷ words) ≡ arranged_behind verb s words
+value-read verb so_far s word value words has read = rw (has, read) refl
 
-pub ruleset arranging = (arranged-word)
+pub value-bad : (verb : Verb) (so_far : Arranged) (rule : ℕ) (word value : List ℕ) (words : List (List ℕ)) → has_value (role_of verb word) ≡ true
+    → with_value so_far (role_of verb word) value ≡ Err rule → arranged_behind verb so_far (word ∷ value ∷ words) ≡ Err rule
+value-bad verb so_far rule word value words has bad = rw (has, bad) refl
+
+pub ruleset arranging = (word-read, word-bad, value-read, value-bad)

@@ -1,14 +1,19 @@
 -- A script stays sound with one interface more, and with one line more.
-use Rattle.std.proofs.Common.{◌≡◌, ℕ, ◌+◌, ◌≤◌, Bool, true, List, [], ◌∷◌, ◌++◌, length, Option, Some, None, Err, refl, ap, arith, length-append}
+use Rattle.std.proofs.Common.{◌≡◌, ℕ, ◌+◌, ◌≤◌, ◌==◌, cond, Bool, true, false, List, [], ◌∷◌, ◌++◌, length, Option, Some, None, IfSome, Err, refl, ap, arith, length-append}
 use Rattle.std.specs.List.{list_all}
 use Rattle.std.proofs.lemmas.Bool.Decides.{nat_tests}
 use Rattle.std.proofs.lemmas.List.Sums.{sum_by-append}
+use Rattle.xdp_state.specs.Answer.{rule_fits}
+use Rattle.xdp_state.specs.declared.command.Command.{Command}
 use Rattle.xdp_state.specs.declared.interface.Interface.{Interface}
-use Rattle.script_text.specs.Handed.{IsSound, has_frame, has_processor, has_flags, asks_frame, asks_processor, asks_flags}
+use Rattle.script_text.specs.Handed.{IsSound, are_printable, has_frame, has_processor, has_flags, asks_frame, asks_processor, asks_flags}
 use Rattle.script_text.specs.Interfaces.{queue_count, has_room}
+use Rattle.script_text.specs.Objects.{object_place, objects_with}
 use Rattle.script_text.specs.Readings.{both, found}
+use Rattle.script_text.specs.Words.{is_printable}
 use Rattle.script_text.specs.declared.script.Script.{Script}
 use Rattle.script_text.specs.declared.what.Line.{Line}
+use Rattle.script_text.specs.declared.what.What.TheVariants as what
 
 pub list_all-push : {X : Type 0} (p : X → Bool) (xs : List X) (x : X) → list_all p xs ≡ true → p x ≡ true → list_all p (xs ++ x ∷ []) ≡ true
 list_all-push p [] x all this = rw this refl
@@ -25,7 +30,7 @@ all_of_none p (x ∷ xs) none = absurd (omega arith)
 
 -- interfaces stand before all lines
 pub sound_interface : (script : Script) (interface : Interface) → IsSound script → has_room script.interfaces interface.queues ≡ true → length script.lines ≡ 0
-    → IsSound (record { interfaces = script.interfaces ++ interface ∷ []; lines = script.lines })
+    → IsSound (record script { interfaces = script.interfaces ++ interface ∷ [] })
 sound_interface script interface sound room none =
     let more : queue_count (script.interfaces ++ interface ∷ []) ≡ queue_count script.interfaces + interface.queues =
     omega (arith, sum_by-append (λ (i : Interface). i.queues) script.interfaces (interface ∷ [])) in
@@ -35,19 +40,44 @@ sound_interface script interface sound room none =
       processors = all_of_none _ _ none;
       flags = all_of_none _ _ none;
       interfaces = omega (arith, length-append script.interfaces (interface ∷ []), fits);
+      objects = sound.objects;
       queues = omega (arith, more, fits);
     }
 
-pub sound_line : (script : Script) (line : Line) → IsSound script → asks_frame line.what ≡ true
+-- the names with one that may be new
+objects-printable : (objects : List (List ℕ)) (name : Option (List ℕ)) → are_printable objects ≡ true → IfSome name (λ n. list_all is_printable n ≡ true)
+    → are_printable (objects_with objects name) ≡ true
+objects-printable objects None all this = all
+objects-printable objects (Some name) all this = chosen (object_place objects name == length objects)
+  where
+    chosen : (b : Bool) → are_printable (cond b (objects ++ name ∷ []) objects) ≡ true
+    chosen true = list_all-push (λ n. list_all is_printable n) objects name all this
+    chosen false = all
+
+sound_added : (script : Script) (objects : List (List ℕ)) (line : Line) → IsSound script → are_printable objects ≡ true → asks_frame line.what ≡ true
     → asks_processor (queue_count script.interfaces) line.what ≡ true → asks_flags line.what ≡ true
-    → IsSound (record { interfaces = script.interfaces; lines = script.lines ++ line ∷ [] })
-sound_line script line sound frame processor flags = record {
+    → IsSound (record { interfaces = script.interfaces; objects = objects; lines = script.lines ++ line ∷ [] })
+sound_added script objects line sound printable frame processor flags = record {
   frames = list_all-push has_frame script.lines line sound.frames frame;
   processors = list_all-push (has_processor (queue_count script.interfaces)) script.lines line sound.processors processor;
   flags = list_all-push has_flags script.lines line sound.flags flags;
   interfaces = sound.interfaces;
+  objects = printable;
   queues = sound.queues;
 }
+
+pub sound_line : (script : Script) (line : Line) → IsSound script → asks_frame line.what ≡ true
+    → asks_processor (queue_count script.interfaces) line.what ≡ true → asks_flags line.what ≡ true
+    → IsSound (record { interfaces = script.interfaces; objects = script.objects; lines = script.lines ++ line ∷ [] })
+sound_line script line sound frame processor flags = sound_added script script.objects line sound sound.objects frame processor flags
+
+-- a line that loads the object of a name
+pub sound_load : (script : Script) (name : Option (List ℕ)) (number : ℕ) (command : Command) → IsSound script → IfSome name (λ n. list_all is_printable n ≡ true)
+    → rule_fits command ≡ true
+    → IsSound (record { interfaces = script.interfaces; objects = objects_with script.objects name; lines = script.lines ++ record { line = number; what = what.Command command } ∷ [] })
+sound_load script name number command sound printable flags =
+    sound_added script (objects_with script.objects name) (record { line = number; what = what.Command command }) sound
+    (objects-printable script.objects name sound.objects printable) refl refl flags
 
 pub ruleset handed = (sound_line)
 

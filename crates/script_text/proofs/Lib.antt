@@ -5,6 +5,7 @@ pub mod HandedLemmas
 pub mod Ip6Lemmas
 pub mod LineLemmas
 pub mod NumberLemmas
+pub mod ObjectLemmas
 pub mod PartLemmas
 pub mod PieceLemmas
 pub mod PlaceLemmas

@@ -14,7 +14,7 @@ use Rattle.script_text.specs.Addresses.{group_of, octet_of, octets_of}
 use Rattle.script_text.specs.Filter.{direction_flags, protocol_flags}
 use Rattle.script_text.specs.Lists.{bits_end, bits_of, directions_of, list_text, protocols_of}
 use Rattle.script_text.specs.declared.vocabulary.BitNames.{BitNames}
-use Rattle.script_text.specs.declared.vocabulary.BitNames.TheVariants.{Features, AddressFlags, PortFlags}
+use Rattle.script_text.specs.declared.vocabulary.BitNames.TheVariants.{Features, AddressFlags, PortFlags, Actions}
 use Rattle.script_text.specs.declared.word_lists.Directions.{Directions}
 use Rattle.script_text.specs.declared.word_lists.Directions.TheVariants as direction
 use Rattle.script_text.specs.declared.word_lists.Protocols.{Protocols}
@@ -71,6 +71,7 @@ unfolding list_text
 lists_below Features = refl
 lists_below AddressFlags = refl
 lists_below PortFlags = refl
+lists_below Actions = refl
 
 pub lists_back : (names : BitNames) (bits : ℕ) → 0 < bits → bits < bits_end names → bits_of names (list_text names bits) ≡ Some bits
 lists_back names bits some within =

@@ -1,6 +1,6 @@
 -- The lines of `xdp-filter`, by the words behind the first.
-use Rattle.std.specs.Prelude.{ℕ, ◌+◌, ◌*◌, List, [], ◌∷◌, Option, Some, None, Result, Ok, Err}
-use Rattle.std.specs.Option.{unwrap_or, option_map, option_or}
+use Rattle.std.specs.Prelude.{ℕ, ◌+◌, ◌*◌, List, [], ◌∷◌, Option, Some, None, is_some, Result, Ok, Err, if◌then◌else◌}
+use Rattle.std.specs.Option.{option_map, option_or}
 use Rattle.filter_rules.specs.declared.policy.Policy.TheVariants.{Allow}
 use Rattle.filter_rules.specs.declared.rule.RuleKey.{RuleKey}
 use Rattle.filter_rules.specs.declared.rule.RuleKind.{RuleKind}
@@ -11,19 +11,15 @@ use Rattle.xdp_state.specs.declared.command.Command.TheVariants.{FilterLoad, Fil
 use Rattle.script_text.specs.Addresses.{ether_of, ip4_of, ip6_of}
 use Rattle.script_text.specs.Names.{is_name}
 use Rattle.script_text.specs.Numbers.{number_within}
-use Rattle.script_text.specs.Options.{verb_of, arranged}
-use Rattle.script_text.specs.Readings.{◌>>=◌, both, found, keeps}
+use Rattle.script_text.specs.Options.{filter_verb_of, arranged}
+use Rattle.script_text.specs.Readings.{◌>>=◌, both, found, keeps, or_else}
 use Rattle.script_text.specs.declared.options.Given.{Given}
 use Rattle.script_text.specs.declared.options.Verb.{Verb}
-use Rattle.script_text.specs.declared.options.Verb.TheVariants.{Load, Unload, Port, Ip, Ether, Status}
+use Rattle.script_text.specs.declared.options.Verb.TheVariants as verb
 use Rattle.script_text.specs.declared.word_lists.Directions.{Directions}
 use Rattle.script_text.specs.declared.word_lists.Directions.TheVariants as direction
 use Rattle.script_text.specs.declared.word_lists.Protocols.{Protocols}
 use Rattle.script_text.specs.declared.word_lists.Protocols.TheVariants as protocol
-
--- what an option gives, or what holds without it
-abbrev pub or_else : {A : Type 0} → Option (Result A ℕ) → A → Result A ℕ
-or_else given default = unwrap_or given (Ok default)
 
 -- mode native, policy allow and all features where no option says otherwise
 unfoldable pub load_of : List ℕ → Given → Result Command ℕ
@@ -78,15 +74,16 @@ ip_key word =
 
 -- the command of a verb; all but `status` have one word of their own
 abbrev pub command_of : Verb → Given → Option (List ℕ) → Result Command ℕ
-command_of Load given (Some name) = load_of name given
-command_of Unload given (Some name) = unload_of name given
-command_of Port given (Some port) = port_of port given
-command_of Ip given (Some address) = address_rule (ip_key address) given
-command_of Ether given (Some address) = address_rule (ether_key address) given
-command_of Status given None = Ok FilterStatus
+command_of verb.FilterLoad given (Some name) = load_of name given
+command_of verb.FilterUnload given (Some name) = unload_of name given
+command_of verb.FilterPort given (Some port) = port_of port given
+command_of verb.FilterIp given (Some address) = address_rule (ip_key address) given
+command_of verb.FilterEther given (Some address) = address_rule (ether_key address) given
+command_of verb.FilterStatus given None = Ok FilterStatus
 command_of _ given _ = Err 3
 
 unfoldable pub filter_line : List (List ℕ) → Result Command ℕ
 filter_line [] = Err 3
 filter_line (verb ∷ words) =
-    found 2 (verb_of verb) >>= λ verb. arranged verb words >>= λ words. command_of verb words.given words.own
+    found 2 (filter_verb_of verb) >>= λ verb. arranged verb words >>= λ words.
+    if is_some words.plain.second then Err 3 else command_of verb words.given words.plain.first

@@ -1,9 +1,10 @@
 -- What holds of a script that is read.
-use Rattle.std.specs.Prelude.{◌≡◌, ℕ, ◌≤◌, Bool, true, nat_lt, length}
+use Rattle.std.specs.Prelude.{◌≡◌, ℕ, ◌≤◌, Bool, true, nat_lt, List, length}
 use Rattle.std.specs.List.{list_all}
 use Rattle.xdp_state.specs.Answer.{rule_fits}
 use Rattle.script_text.specs.Frames.{has_frame_size}
 use Rattle.script_text.specs.Interfaces.{queue_count}
+use Rattle.script_text.specs.Words.{is_printable}
 use Rattle.script_text.specs.declared.script.Script.{Script}
 use Rattle.script_text.specs.declared.what.Line.{Line}
 use Rattle.script_text.specs.declared.what.What.{What}
@@ -33,9 +34,14 @@ asks_flags _ = true
 abbrev pub has_flags : Line → Bool
 has_flags line = asks_flags line.what
 
+-- each name has printable bytes alone
+abbrev pub are_printable : List (List ℕ) → Bool
+are_printable names = list_all (λ name. list_all is_printable name) names
+
 pub record IsSound (script : Script) : Type 0 where
   pub frames : list_all has_frame script.lines ≡ true
   pub processors : list_all (has_processor (queue_count script.interfaces)) script.lines ≡ true
   pub flags : list_all has_flags script.lines ≡ true
   pub interfaces : length script.interfaces ≤ 8
+  pub objects : are_printable script.objects ≡ true
   pub queues : queue_count script.interfaces ≤ 8

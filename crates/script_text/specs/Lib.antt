@@ -1,11 +1,14 @@
 pub mod Addresses
+pub mod Chains
 pub mod Filter
 pub mod Frames
 pub mod Handed
 pub mod Interfaces
 pub mod Lists
+pub mod Loader
 pub mod Names
 pub mod Numbers
+pub mod Objects
 pub mod Options
 pub mod Pieces
 pub mod Readings
@@ -15,4 +18,5 @@ pub mod Texts
 pub mod Trace
 pub mod TraceRead
 pub mod Vocabulary
+pub mod WordViews
 pub mod Words

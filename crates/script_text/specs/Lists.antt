@@ -1,13 +1,14 @@
 -- Lists of the names of bits with commas between them: read, each name at most once, and printed, in the order of the bits.
 use Rattle.std.specs.Prelude.{ℕ, ◌==◌, bit_and, bit_or, List, [], ◌∷◌, ◌++◌, codes, Option, Some, None, option_and_then, if◌then◌else◌}
 use Rattle.std.specs.Str.{bytes_eq}
+use Rattle.filter_rules.specs.Rule.{has_one_of}
 use Rattle.filter_rules.specs.declared.rule.RuleKind.{RuleKind}
 use Rattle.filter_rules.specs.declared.rule.RuleKind.TheVariants.{Port, Ip4, Ip6, Ether}
 use Rattle.script_text.specs.Pieces.{listed}
 use Rattle.script_text.specs.Vocabulary.{bit_name, bit_of}
 use Rattle.script_text.specs.Words.{parts_of}
 use Rattle.script_text.specs.declared.vocabulary.BitNames.{BitNames}
-use Rattle.script_text.specs.declared.vocabulary.BitNames.TheVariants.{Features, AddressFlags, PortFlags}
+use Rattle.script_text.specs.declared.vocabulary.BitNames.TheVariants.{Features, AddressFlags, PortFlags, Actions}
 use Rattle.script_text.specs.declared.word_lists.Directions.{Directions}
 use Rattle.script_text.specs.declared.word_lists.Directions.TheVariants as direction
 use Rattle.script_text.specs.declared.word_lists.Protocols.{Protocols}
@@ -51,6 +52,10 @@ protocols_in bits =
 abbrev pub protocols_of : List ℕ → Option Protocols
 protocols_of list = option_and_then protocols_in (bits_of Features list)
 
+-- a list of actions, as their mask
+abbrev pub actions_of : List ℕ → Option ℕ
+actions_of list = bits_of Actions list
+
 -- the names of the bits that are set
 unfoldable pub list_text : BitNames → ℕ → List ℕ
 list_text Features bits =
@@ -60,12 +65,16 @@ list_text AddressFlags bits = listed bits 1 (bit_name AddressFlags 1) ++ listed 
 list_text PortFlags bits =
     listed bits 1 (bit_name PortFlags 1) ++ (listed bits 2 (bit_name PortFlags 2) ++ (listed bits 4 (bit_name PortFlags 4)
     ++ listed bits 8 (bit_name PortFlags 8)))
+list_text Actions bits =
+    listed bits 1 (bit_name Actions 1) ++ (listed bits 2 (bit_name Actions 2) ++ (listed bits 4 (bit_name Actions 4)
+    ++ (listed bits 8 (bit_name Actions 8) ++ listed bits 16 (bit_name Actions 16))))
 
 -- below this number are bits with names alone
 abbrev pub bits_end : BitNames → ℕ
 bits_end Features = 32
 bits_end AddressFlags = 4
 bits_end PortFlags = 16
+bits_end Actions = 32
 
 -- what the flags of a rule's kind are called
 abbrev pub flag_names : RuleKind → BitNames
@@ -76,3 +85,7 @@ flag_names Ether = AddressFlags
 
 unfoldable pub flags_text : RuleKind → ℕ → List ℕ
 flags_text kind bits = list_text (flag_names kind) bits
+
+-- the names of a mask's actions, or `-` where it has none
+unfoldable pub mask_text : ℕ → List ℕ
+mask_text mask = if has_one_of mask 31 then list_text Actions mask else codes "-"

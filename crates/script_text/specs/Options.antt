@@ -1,11 +1,14 @@
--- The words behind `xdp-filter VERB`: the verb's options, and the one word of its own that most verbs have.
+-- The words behind `xdp-loader VERB` and `xdp-filter VERB`: the verb's options, and the words of its own.
 use Rattle.std.specs.Prelude.{ℕ, ◌||◌, Bool, true, false, List, [], ◌∷◌, codes, Option, Some, None, is_some, Result, Ok, Err, if◌then◌else◌}
 use Rattle.std.specs.Str.{bytes_eq}
-use Rattle.script_text.specs.Lists.{directions_of, protocols_of, features_of}
+use Rattle.script_text.specs.Lists.{actions_of, directions_of, protocols_of, features_of}
+use Rattle.script_text.specs.Numbers.{number_within}
 use Rattle.script_text.specs.Vocabulary.{mode_of, policy_of}
 use Rattle.script_text.specs.Readings.{◌>>=◌, found}
 use Rattle.script_text.specs.Words.{is_option}
 use Rattle.script_text.specs.declared.options.Given.{Given}
+use Rattle.script_text.specs.declared.options.Label.{Label}
+use Rattle.script_text.specs.declared.options.Label.TheVariants as label
 use Rattle.script_text.specs.declared.options.Role.{Role}
 use Rattle.script_text.specs.declared.options.Role.TheVariants as role
 use Rattle.script_text.specs.declared.options.Setting.{Setting}
@@ -13,16 +16,24 @@ use Rattle.script_text.specs.declared.options.Setting.TheVariants as setting
 use Rattle.script_text.specs.declared.options.Switch.{Switch}
 use Rattle.script_text.specs.declared.options.Switch.TheVariants as switch
 use Rattle.script_text.specs.declared.options.Verb.{Verb}
-use Rattle.script_text.specs.declared.options.Verb.TheVariants.{Load, Unload, Port, Ip, Ether, Status}
+use Rattle.script_text.specs.declared.options.Verb.TheVariants as verb
 
-abbrev pub verb_of : List ℕ → Option Verb
-verb_of word =
-    if bytes_eq word (codes "load") then Some Load
-    else if bytes_eq word (codes "unload") then Some Unload
-    else if bytes_eq word (codes "port") then Some Port
-    else if bytes_eq word (codes "ip") then Some Ip
-    else if bytes_eq word (codes "ether") then Some Ether
-    else if bytes_eq word (codes "status") then Some Status
+-- the second word of a line of `xdp-loader`, and of one of `xdp-filter`
+abbrev pub loader_verb_of : List ℕ → Option Verb
+loader_verb_of word =
+    if bytes_eq word (codes "load") then Some verb.LoaderLoad
+    else if bytes_eq word (codes "unload") then Some verb.LoaderUnload
+    else if bytes_eq word (codes "status") then Some verb.LoaderStatus
+    else None
+
+abbrev pub filter_verb_of : List ℕ → Option Verb
+filter_verb_of word =
+    if bytes_eq word (codes "load") then Some verb.FilterLoad
+    else if bytes_eq word (codes "unload") then Some verb.FilterUnload
+    else if bytes_eq word (codes "port") then Some verb.FilterPort
+    else if bytes_eq word (codes "ip") then Some verb.FilterIp
+    else if bytes_eq word (codes "ether") then Some verb.FilterEther
+    else if bytes_eq word (codes "status") then Some verb.FilterStatus
     else None
 
 -- the short or the long form of an option
@@ -30,15 +41,30 @@ abbrev pub is_either : List ℕ → List ℕ → List ℕ → Bool
 is_either short long word = bytes_eq word short || bytes_eq word long
 
 -- the options of each verb
-abbrev pub load_option : List ℕ → Role
-load_option word =
+abbrev pub program_option : List ℕ → Role
+program_option word =
+    if is_either (codes "-m") (codes "--mode") word then role.Setting setting.Mode
+    else if is_either (codes "-n") (codes "--prog-name") word then role.Label label.Name
+    else if is_either (codes "-s") (codes "--section") word then role.Label label.Section
+    else if is_either (codes "-P") (codes "--prio") word then role.Setting setting.Priority
+    else if is_either (codes "-A") (codes "--actions") word then role.Setting setting.Actions
+    else role.Unknown
+
+abbrev pub member_option : List ℕ → Role
+member_option word =
+    if is_either (codes "-i") (codes "--id") word then role.Setting setting.Id
+    else if is_either (codes "-a") (codes "--all") word then role.Switch switch.All
+    else role.Unknown
+
+abbrev pub filter_option : List ℕ → Role
+filter_option word =
     if is_either (codes "-m") (codes "--mode") word then role.Setting setting.Mode
     else if is_either (codes "-p") (codes "--policy") word then role.Setting setting.Policy
     else if is_either (codes "-f") (codes "--features") word then role.Setting setting.Features
     else role.Unknown
 
-abbrev pub unload_option : List ℕ → Role
-unload_option word =
+abbrev pub keep_option : List ℕ → Role
+keep_option word =
     if is_either (codes "-k") (codes "--keep-maps") word then role.Switch switch.Keep else role.Unknown
 
 abbrev pub address_option : List ℕ → Role
@@ -52,12 +78,15 @@ port_option word =
     if is_either (codes "-p") (codes "--proto") word then role.Setting setting.Protocols else address_option word
 
 unfoldable pub option_of : Verb → List ℕ → Role
-option_of Load word = load_option word
-option_of Unload word = unload_option word
-option_of Port word = port_option word
-option_of Ip word = address_option word
-option_of Ether word = address_option word
-option_of Status word = role.Unknown
+option_of verb.LoaderLoad word = program_option word
+option_of verb.LoaderUnload word = member_option word
+option_of verb.LoaderStatus word = role.Unknown
+option_of verb.FilterLoad word = filter_option word
+option_of verb.FilterUnload word = keep_option word
+option_of verb.FilterPort word = port_option word
+option_of verb.FilterIp word = address_option word
+option_of verb.FilterEther word = address_option word
+option_of verb.FilterStatus word = role.Unknown
 
 -- what a word is that is no option's value
 unfoldable pub role_of : Verb → List ℕ → Role
@@ -65,6 +94,7 @@ role_of verb word = if is_option word then option_of verb word else role.Own
 
 abbrev pub has_value : Role → Bool
 has_value (role.Setting setting) = true
+has_value (role.Label label) = true
 has_value _ = false
 
 -- nothing is given
@@ -75,12 +105,20 @@ none_given = record {
   features = None;
   directions = None;
   protocols = None;
+  priority = None;
+  actions = None;
+  id = None;
   keep = false;
   remove = false;
+  all = false;
 }
 
--- What is given with one option more: its value, or rule 11 where the word is none of its values. An option that stands twice
--- breaks rule 3.
+-- a number below 2^32
+abbrev pub number_32 : List ℕ → Option ℕ
+number_32 word = number_within 0 4294967295 word
+
+-- What is given with one option more: its value, or the rule that the word breaks, 4 where it should be a number and 11 where it is none
+-- of the option's choices. An option that stands twice breaks rule 3.
 unfoldable pub given_value : Given → Setting → List ℕ → Result Given ℕ
 given_value given setting.Mode value =
     if is_some given.mode then Err 3 else Ok (record given { mode = Some (found 11 (mode_of value)) })
@@ -94,32 +132,63 @@ given_value given setting.Directions value =
 given_value given setting.Protocols value =
     if is_some given.protocols then Err 3
     else Ok (record given { protocols = Some (found 11 (protocols_of value)) })
+given_value given setting.Priority value =
+    if is_some given.priority then Err 3 else Ok (record given { priority = Some (found 4 (number_32 value)) })
+given_value given setting.Actions value =
+    if is_some given.actions then Err 3 else Ok (record given { actions = Some (found 11 (actions_of value)) })
+given_value given setting.Id value =
+    if is_some given.id then Err 3 else Ok (record given { id = Some (found 4 (number_32 value)) })
 
 unfoldable pub given_switch : Given → Switch → Result Given ℕ
 given_switch given switch.Keep = if given.keep then Err 3 else Ok (record given { keep = true })
 given_switch given switch.Remove = if given.remove then Err 3 else Ok (record given { remove = true })
+given_switch given switch.All = if given.all then Err 3 else Ok (record given { all = true })
 
--- what the options give, and the verb's own word
+-- words that are kept as they are: the verb's own in their order, and the names that options give
+pub record PlainWords : Type 0 where
+  pub first : Option (List ℕ)
+  pub second : Option (List ℕ)
+  pub name : Option (List ℕ)
+  pub section : Option (List ℕ)
+
+abbrev pub no_plain : PlainWords
+no_plain = record { first = None; second = None; name = None; section = None }
+
+-- no verb has more than two words of its own
+unfoldable pub with_own : PlainWords → List ℕ → Result PlainWords ℕ
+with_own plain word =
+    if is_some plain.second then Err 3
+    else if is_some plain.first then Ok (record plain { second = Some word })
+    else Ok (record plain { first = Some word })
+
+unfoldable pub with_label : PlainWords → Label → List ℕ → Result PlainWords ℕ
+with_label plain label.Name value = if is_some plain.name then Err 3 else Ok (record plain { name = Some value })
+with_label plain label.Section value = if is_some plain.section then Err 3 else Ok (record plain { section = Some value })
+
+-- the words behind a verb: what the options give, and the words that are kept
 pub record Arranged : Type 0 where
   pub given : Given
-  pub own : Option (List ℕ)
+  pub plain : PlainWords
 
-abbrev pub arrangement : Given → Option (List ℕ) → Arranged
-arrangement given own = record { given = given; own = own }
+abbrev pub arrangement : Given → PlainWords → Arranged
+arrangement given plain = record { given = given; plain = plain }
 
 abbrev pub with_given : Arranged → Given → Result Arranged ℕ
-with_given so_far given = Ok (record so_far { given = given })
+with_given so_far given = Ok (arrangement given so_far.plain)
 
--- the words so far with a word that has no value behind it; a verb has at most one word of its own
+abbrev pub with_plain : Arranged → PlainWords → Result Arranged ℕ
+with_plain so_far plain = Ok (arrangement so_far.given plain)
+
+-- the words so far with a word that has no value behind it
 abbrev pub with_word : Arranged → Role → List ℕ → Result Arranged ℕ
-with_word so_far role.Own word = if is_some so_far.own then Err 3 else Ok (record so_far { own = Some word })
+with_word so_far role.Own word = with_own so_far.plain word >>= with_plain so_far
 with_word so_far (role.Switch switch) word = given_switch so_far.given switch >>= with_given so_far
-with_word so_far (role.Setting setting) word = Err 3
-with_word so_far role.Unknown word = Err 3
+with_word so_far _ word = Err 3
 
 -- the words so far with an option and its value
 abbrev pub with_value : Arranged → Role → List ℕ → Result Arranged ℕ
 with_value so_far (role.Setting setting) value = given_value so_far.given setting value >>= with_given so_far
+with_value so_far (role.Label label) value = with_label so_far.plain label value >>= with_plain so_far
 with_value so_far _ value = Err 3
 
 -- the words so far and those behind them, where an option's value is the next word
@@ -133,4 +202,4 @@ arranged_behind verb so_far (word ∷ next ∷ words) =
 
 -- the words behind a verb
 unfoldable pub arranged : Verb → List (List ℕ) → Result Arranged ℕ
-arranged verb words = arranged_behind verb (arrangement none_given None) words
+arranged verb words = arranged_behind verb (arrangement none_given no_plain) words

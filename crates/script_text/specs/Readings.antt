@@ -1,5 +1,6 @@
 -- Readings of a line and its parts: a value, or the number of the least rule that is broken.
 use Rattle.std.specs.Prelude.{◌≡◌, ℕ, min, Bool, true, false, Option, Some, None, Result, Ok, Err, ⊤}
+use Rattle.std.specs.Option.{unwrap_or}
 use Rattle.script_text.specs.declared.reading.LineEnd.{LineEnd}
 use Rattle.script_text.specs.declared.reading.LineEnd.TheVariants.{BadLine, OutOfMemory}
 
@@ -25,6 +26,16 @@ keeps rule false = Err rule
 abbrev pub found : {A : Type 0} → ℕ → Option A → Result A ℕ
 found rule (Some x) = Ok x
 found rule None = Err rule
+
+-- what an option gives, or what holds without it
+abbrev pub or_else : {A : Type 0} → Option (Result A ℕ) → A → Result A ℕ
+or_else given default = unwrap_or given (Ok default)
+
+-- what an option gives that may be absent
+abbrev pub if_given : {A : Type 0} → Option (Result A ℕ) → Result (Option A) ℕ
+if_given None = Ok None
+if_given (Some (Ok value)) = Ok (Some value)
+if_given (Some (Err rule)) = Err rule
 
 -- The answer is the reading that is wanted; only want of memory is free.
 abbrev pub Reads : {A : Type 0} → Result A LineEnd → Result A ℕ → Type 0

@@ -1,6 +1,6 @@
 -- What a script says. A line is read as what it adds to the script, or as the number of the least rule that it breaks:
 -- 1   a byte is neither printable ASCII nor a tab
--- 2   the first word, or the second behind `xdp-filter`, is none of those below
+-- 2   the first word, or the second behind `xdp-loader` or `xdp-filter`, is none of those below
 -- 3   words are missing or too many, or an option is unknown, has no value or stands twice
 -- 4   a number isn't 1 to 20 digits, or is out of its range
 -- 5   an interface name isn't 1 to 15 letters, digits, `.`, `_` and `-`
@@ -11,6 +11,7 @@
 -- 10  a frame isn't pairs of hexadecimal digits, of 14 to 15,872 bytes
 -- 11  a choice or a list has a word that is none of its words, an empty word, or a word twice
 -- 12  an address isn't in its form
+-- 13  an unload of `xdp-loader` asks for one member and for all, or for neither
 use Rattle.std.specs.Prelude.{◌≡◌, ℕ, ◌+◌, ◌==◌, ◌||◌, Bool, not, nat_lt, List, [], ◌∷◌, ◌++◌, length, codes, Result, Ok, Err, if◌then◌else◌, ⊤}
 use Rattle.std.specs.List.{list_all}
 use Rattle.std.specs.Str.{bytes_eq}
@@ -19,7 +20,10 @@ use Rattle.xdp_state.specs.declared.command.Command.{Command}
 use Rattle.xdp_state.specs.declared.interface.Interface.{Interface}
 use Rattle.script_text.specs.Filter.{filter_line}
 use Rattle.script_text.specs.Interfaces.{interface_of, packet_of}
-use Rattle.script_text.specs.Readings.{◌>>=◌}
+use Rattle.script_text.specs.Loader.{loader_command}
+use Rattle.script_text.specs.Objects.{objects_with}
+use Rattle.script_text.specs.Options.{arranged, loader_verb_of}
+use Rattle.script_text.specs.Readings.{◌>>=◌, found}
 use Rattle.script_text.specs.Words.{words_of, is_comment, is_option, is_printable}
 use Rattle.script_text.specs.declared.script.Script.{Script}
 use Rattle.script_text.specs.declared.script.ScriptEnd.{ScriptEnd}
@@ -41,6 +45,13 @@ interface_line script (name ∷ queues ∷ []) =
     if is_option name || is_option queues then Err 3
     else interface_of script.interfaces (length script.lines == 0) name queues >>= with_interface script name
 interface_line script _ = Err 3
+
+-- a line of `xdp-loader`; a load names its object for the first time, or once more
+unfoldable pub loader_line : Script → ℕ → List (List ℕ) → Result Script ℕ
+loader_line script number [] = Err 3
+loader_line script number (verb ∷ words) =
+    found 2 (loader_verb_of verb) >>= λ verb. arranged verb words >>= λ words. loader_command script.objects verb words >>= λ command.
+    with_line (record script { objects = objects_with script.objects words.plain.second }) number (what.Command command)
 
 -- `packet NAME QUEUE HEX`
 unfoldable pub packet_line : List Interface → List (List ℕ) → Result What ℕ
@@ -72,6 +83,7 @@ read_words script number printable (command ∷ words) =
     if is_comment command then Ok script
     else if not printable then Err 1
     else if bytes_eq command (codes "interface") then interface_line script words
+    else if bytes_eq command (codes "xdp-loader") then loader_line script number words
     else what_of script.interfaces command words >>= with_line script number
 
 -- the script with what the line of the number says
@@ -89,12 +101,15 @@ read_lines script number [] = Ok script
 read_lines script number (line ∷ more) =
     at_line number (read_line script number line) >>= λ script. read_lines script (number + 1) more
 
+abbrev pub no_script : Script
+no_script = record { interfaces = []; objects = []; lines = [] }
+
 -- The script of some bytes. It has at most 65,536 lines, which end with a line feed that the last may lack; a carriage
 -- return before the line feed is dropped.
 unfoldable pub script_of : List ℕ → Result Script ScriptEnd
 script_of bytes =
     if nat_lt 65536 (length (lines bytes)) then Err TooManyLines
-    else read_lines (record { interfaces = []; lines = [] }) 1 (lines bytes)
+    else read_lines no_script 1 (lines bytes)
 
 -- why a script of so many lines isn't taken, the first of whose bad lines has this number
 abbrev pub bad_script : ℕ → ℕ → ℕ → ScriptEnd

@@ -6,7 +6,7 @@ use Rattle.filter_rules.specs.declared.policy.Policy.TheVariants.{Allow, Deny}
 use Rattle.xdp_state.specs.declared.mode.Mode.{Mode}
 use Rattle.xdp_state.specs.declared.mode.Mode.TheVariants.{Native, Skb}
 use Rattle.script_text.specs.declared.vocabulary.BitNames.{BitNames}
-use Rattle.script_text.specs.declared.vocabulary.BitNames.TheVariants.{Features, AddressFlags, PortFlags}
+use Rattle.script_text.specs.declared.vocabulary.BitNames.TheVariants.{Features, AddressFlags, PortFlags, Actions}
 use Rattle.xio.specs.declared.action.Action.{Action}
 use Rattle.xio.specs.declared.action.Action.TheVariants.{Aborted, Drop, Pass, Tx, Redirect}
 
@@ -92,13 +92,33 @@ feature_of word =
     else if bytes_eq word (feature_name 16) then Some 16
     else None
 
+-- by the bit of the action's number, as libxdp names actions
+abbrev pub action_bit_name : ℕ → List ℕ
+action_bit_name bit =
+    if bit == 1 then codes "XDP_ABORTED"
+    else if bit == 2 then codes "XDP_DROP"
+    else if bit == 4 then codes "XDP_PASS"
+    else if bit == 8 then codes "XDP_TX"
+    else codes "XDP_REDIRECT"
+
+abbrev pub action_bit_of : List ℕ → Option ℕ
+action_bit_of word =
+    if bytes_eq word (action_bit_name 1) then Some 1
+    else if bytes_eq word (action_bit_name 2) then Some 2
+    else if bytes_eq word (action_bit_name 4) then Some 4
+    else if bytes_eq word (action_bit_name 8) then Some 8
+    else if bytes_eq word (action_bit_name 16) then Some 16
+    else None
+
 -- the word of a bit, and the bit of a word
 abbrev pub bit_name : BitNames → ℕ → List ℕ
 bit_name Features bit = feature_name bit
 bit_name AddressFlags bit = address_flag_name bit
 bit_name PortFlags bit = port_flag_name bit
+bit_name Actions bit = action_bit_name bit
 
 abbrev pub bit_of : BitNames → List ℕ → Option ℕ
 bit_of Features word = feature_of word
 bit_of AddressFlags word = address_flag_of word
 bit_of PortFlags word = port_flag_of word
+bit_of Actions word = action_bit_of word

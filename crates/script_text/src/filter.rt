@@ -1,9 +1,9 @@
 ghost use Rattle.std.specs.Prelude.{◌≡◌, ◌≤◌, true, IfOk, IfSome};
-ghost use Rattle.std.specs.Option.{option_map};
 ghost use Rattle.filter_rules.specs.Rule.{all_flags};
-ghost use Rattle.script_text.specs.Filter.{or_else, load_of, unload_of, direction_flags, protocol_flags, port_flags, port_of, address_rule, ether_key, ip_key, command_of, filter_line};
+ghost use Rattle.script_text.specs.Filter.{load_of, unload_of, direction_flags, protocol_flags, port_flags, port_of, address_rule, ether_key, ip_key, command_of, filter_line};
 ghost use Rattle.xdp_state.specs.Answer.{rule_fits};
 ghost use Rattle.script_text.specs.Readings.{Reads};
+ghost use Rattle.script_text.specs.WordViews.{word_of};
 ghost use Rattle.script_text.specs.Words.{words_of};
 
 use crate::arranged::arranged;
@@ -12,8 +12,8 @@ use crate::ip4::ip4_of;
 use crate::ip6::ip6_of;
 use crate::name::is_name;
 use crate::numbers::number_within;
-use crate::options::{Given, Verb, verb_of};
-use crate::reading::{LineEnd, both, keeps};
+use crate::options::{Given, Verb, filter_verb_of};
+use crate::reading::{LineEnd, both, keeps, or_else};
 use crate::rule::{BAD_ADDRESS, BAD_FORM, BAD_NAME, BAD_NUMBER, Rule, UNKNOWN};
 use crate::text::bytes_of;
 use crate::word_lists::{Directions, Protocols};
@@ -21,16 +21,6 @@ use crate::words::next_word;
 use filter_rules::{Policy, RuleKey, RuleKind, features};
 use std::alloc::Global;
 use xdp_state::{Command, Mode};
-
-/// What an option gives, or what holds without it.
-fn or_else<T: Copy>(given: Option<Result<T, Rule>>, default: T) -> Result<T, Rule>
-    ensures { result ≡ or_else given default }
-{
-    match given {
-        Some(given) => given,
-        None => Ok(default),
-    }
-}
 
 /// Reads the words of `load`.
 #[tactic(auto, unfolding(crate::specs::Filter::load_of))]
@@ -179,16 +169,16 @@ fn command_of(
     given: Given,
     own: Option<&[u8]>,
 ) -> Result<Command, LineEnd>
-    ensures command { Reads result (command_of verb given (option_map (λ own. own.now) own.entry)) }
+    ensures command { Reads result (command_of verb given (word_of own.entry)) }
     ensures flags { IfOk result (λ command. rule_fits command ≡ true) }
 {
     match (verb, own) {
-        (Verb::Load, Some(name)) => load_of(alloc, name, given),
-        (Verb::Unload, Some(name)) => unload_of(alloc, name, given),
-        (Verb::Port, Some(port)) => Ok(port_of(port, given)?),
-        (Verb::Ip, Some(address)) => Ok(address_rule(ip_key(address), given)?),
-        (Verb::Ether, Some(address)) => Ok(address_rule(ether_key(address), given)?),
-        (Verb::Status, None) => Ok(Command::FilterStatus),
+        (Verb::FilterLoad, Some(name)) => load_of(alloc, name, given),
+        (Verb::FilterUnload, Some(name)) => unload_of(alloc, name, given),
+        (Verb::FilterPort, Some(port)) => Ok(port_of(port, given)?),
+        (Verb::FilterIp, Some(address)) => Ok(address_rule(ip_key(address), given)?),
+        (Verb::FilterEther, Some(address)) => Ok(address_rule(ether_key(address), given)?),
+        (Verb::FilterStatus, None) => Ok(Command::FilterStatus),
         _ => Err(LineEnd::BadLine { rule: BAD_FORM }),
     }
 }
@@ -202,9 +192,12 @@ pub fn filter_line(alloc: Global, words: &[u8]) -> Result<Command, LineEnd>
     let Some((verb, behind)) = next_word(words) else {
         return Err(LineEnd::BadLine { rule: BAD_FORM });
     };
-    let Some(verb) = verb_of(verb) else {
+    let Some(verb) = filter_verb_of(verb) else {
         return Err(LineEnd::BadLine { rule: UNKNOWN });
     };
     let words = arranged(verb, behind)?;
-    command_of(alloc, verb, words.given, words.own)
+    if words.plain.second.is_some() {
+        return Err(LineEnd::BadLine { rule: BAD_FORM });
+    }
+    command_of(alloc, verb, words.given, words.plain.first)
 }

@@ -1,7 +1,9 @@
 //! The script that the tool runs, read from bytes, and the texts that it prints.
 #![tactic(auto)]
 
+mod actions;
 mod arranged;
+mod chains;
 mod ethernet;
 mod filter;
 mod frame;
@@ -13,8 +15,10 @@ mod key_text;
 mod laws;
 mod line;
 mod lines;
+mod loader;
 mod name;
 mod numbers;
+mod objects;
 mod options;
 mod outcome;
 mod parts;
@@ -34,8 +38,10 @@ mod what;
 mod word_lists;
 mod words;
 
+pub use chains::{chain_print, chain_text, chains_print};
 pub use frame::Frame;
 pub use laws::reads_back;
+pub use objects::NameList;
 pub use outcome::{Outcome, end_print, end_text, outcome_print, outcome_text};
 pub use processor::{processor_line, processor_print};
 pub use script::{Script, ScriptEnd, read_script};

@@ -1,13 +1,18 @@
-ghost use Rattle.std.specs.Prelude.{◌≡◌, ◌+◌, ◌≤◌, true, length, IfOk, OnOk, OnErr};
+ghost use Rattle.std.specs.Prelude.{◌≡◌, ◌+◌, ◌≤◌, ℕ, true, length, Err, IfOk, OnOk, OnErr};
 ghost use Rattle.script_text.specs.Handed.{IsSound, asks_frame, asks_processor, asks_flags};
 ghost use Rattle.script_text.specs.Interfaces.{queue_count, packet_of};
 ghost use Rattle.script_text.specs.Readings.{Leads, Reads};
-ghost use Rattle.script_text.specs.Script.{interface_line, packet_line, what_of, read_line};
+ghost use Rattle.script_text.specs.Script.{interface_line, loader_line, packet_line, what_of, read_line};
+ghost use Rattle.script_text.specs.declared.reading.LineEnd.TheVariants.{BadLine};
 ghost use Rattle.script_text.specs.Words.{words_of};
 
+use crate::arranged::arranged;
 use crate::filter::filter_line;
 use crate::frame::Frame;
 use crate::interfaces::{hand_in_of, interface_of};
+use crate::loader::loader_command;
+use crate::objects::add_object;
+use crate::options::loader_verb_of;
 use crate::reading::LineEnd;
 use crate::rule::{BAD_BYTE, BAD_FORM, BAD_FRAME, UNKNOWN};
 use crate::script::Script;
@@ -39,6 +44,31 @@ fn interface_line(alloc: Global, script: &mut Script, words: &[u8]) -> Result<()
     let queues = interface_of(script.interfaces.as_slice(), first, name, queues)?;
     let name = bytes_of(alloc, name)?;
     script.interfaces.push(Interface { name, queues })?;
+    Ok(())
+}
+
+/// Reads a line of `xdp-loader`, by the words behind the first. Where a rule is broken the script stays as it was.
+#[tactic(auto, unfolding(crate::specs::Script::loader_line), using(crate::proofs::HandedLemmas::handed))]
+fn loader_line(alloc: Global, script: &mut Script, number: u32, words: &[u8]) -> Result<(), LineEnd>
+    requires { IsSound script.old }
+    ensures script { Leads result script.new (loader_line script.old number (words_of words.now)) }
+    ensures sound { OnOk result (IsSound script.new) }
+    ensures lines { length script.new.lines ≤ length script.old.lines + 1 }
+    ensures bad { (rule : ℕ) → result ≡ Err (BadLine rule) → script.new ≡ script.old }
+{
+    let Some((verb, behind)) = next_word(words) else {
+        return Err(LineEnd::BadLine { rule: BAD_FORM });
+    };
+    let Some(verb) = loader_verb_of(verb) else {
+        return Err(LineEnd::BadLine { rule: UNKNOWN });
+    };
+    let words = arranged(verb, behind)?;
+    let command = loader_command(alloc, &script.objects, verb, words)?;
+    add_object(alloc, &mut script.objects, words.plain.second)?;
+    script.lines.push(Line {
+        line: number,
+        what: What::Command(command),
+    })?;
     Ok(())
 }
 
@@ -120,7 +150,7 @@ fn what_of(
     Ok(What::Barrier)
 }
 
-/// Reads the line of the number behind those of the script.
+/// Reads the line of the number behind those of the script. Where a rule is broken the script stays as it was.
 #[tactic(auto, unfolding(crate::specs::Script::read_line), using(crate::proofs::HandedLemmas::handed))]
 pub fn read_line(
     alloc: Global,
@@ -132,7 +162,7 @@ pub fn read_line(
     ensures script { Leads result script.new (read_line script.old number line.now) }
     ensures sound { OnOk result (IsSound script.new) }
     ensures lines { length script.new.lines ≤ length script.old.lines + 1 }
-    ensures err { OnErr result (script.new ≡ script.old) }
+    ensures bad { (rule : ℕ) → result ≡ Err (BadLine rule) → script.new ≡ script.old }
 {
     let Some((command, words)) = next_word(line) else {
         return Ok(());
@@ -145,6 +175,9 @@ pub fn read_line(
     }
     if command == b"interface".as_slice() {
         return interface_line(alloc, script, words);
+    }
+    if command == b"xdp-loader".as_slice() {
+        return loader_line(alloc, script, number, words);
     }
     let what = what_of(alloc, script.interfaces.as_slice(), command, words)?;
     script.lines.push(Line { line: number, what })?;

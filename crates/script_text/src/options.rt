@@ -1,22 +1,28 @@
 ghost use Rattle.std.specs.Prelude.{◌≡◌};
-ghost use Rattle.script_text.specs.Options.{verb_of, is_either, load_option, unload_option, address_option, port_option, option_of, role_of, none_given, given_value, given_switch};
+ghost use Rattle.script_text.specs.Options.{loader_verb_of, filter_verb_of, is_either, program_option, member_option, filter_option, keep_option, address_option, port_option, option_of, role_of, none_given, number_32, given_value, given_switch};
 
-use crate::rule::{BAD_CHOICE, BAD_FORM, Rule};
+use crate::numbers::number_within;
+use crate::rule::{BAD_CHOICE, BAD_FORM, BAD_NUMBER, Rule};
 use crate::vocabulary::{mode_of, policy_of};
-use crate::word_lists::{Directions, Protocols, directions_of, features_of, protocols_of};
+use crate::word_lists::{
+    Directions, Protocols, actions_of, directions_of, features_of, protocols_of,
+};
 use crate::words::is_option;
 use filter_rules::Policy;
 use xdp_state::Mode;
 
-/// The second word of a line of `xdp-filter`.
+/// The second word of a line of `xdp-loader` or `xdp-filter`.
 #[derive(Clone, Copy, Debug, PartialEq, Eq)]
 pub enum Verb {
-    Load,
-    Unload,
-    Port,
-    Ip,
-    Ether,
-    Status,
+    LoaderLoad,
+    LoaderUnload,
+    LoaderStatus,
+    FilterLoad,
+    FilterUnload,
+    FilterPort,
+    FilterIp,
+    FilterEther,
+    FilterStatus,
 }
 
 /// An option whose value is the next word.
@@ -27,6 +33,16 @@ pub enum Setting {
     Features,
     Directions,
     Protocols,
+    Priority,
+    Actions,
+    Id,
+}
+
+/// An option whose value is the next word, which is kept as it is.
+#[derive(Clone, Copy, Debug, PartialEq, Eq)]
+pub enum Label {
+    Name,
+    Section,
 }
 
 /// An option without a value.
@@ -34,6 +50,7 @@ pub enum Setting {
 pub enum Switch {
     Keep,
     Remove,
+    All,
 }
 
 /// What a word is that is no option's value.
@@ -41,6 +58,7 @@ pub enum Switch {
 pub enum Role {
     Own,
     Setting(Setting),
+    Label(Label),
     Switch(Switch),
     Unknown,
 }
@@ -53,25 +71,45 @@ pub struct Given {
     pub features: Option<Result<u8, Rule>>,
     pub directions: Option<Result<Directions, Rule>>,
     pub protocols: Option<Result<Protocols, Rule>>,
+    pub priority: Option<Result<u32, Rule>>,
+    pub actions: Option<Result<u8, Rule>>,
+    pub id: Option<Result<u32, Rule>>,
     pub keep: bool,
     pub remove: bool,
+    pub all: bool,
 }
 
-pub fn verb_of(word: &[u8]) -> Option<Verb>
-    ensures { result ≡ verb_of word.now }
+/// The verb of the second word of a line of `xdp-loader`.
+pub fn loader_verb_of(word: &[u8]) -> Option<Verb>
+    ensures { result ≡ loader_verb_of word.now }
 {
     if word == b"load".as_slice() {
-        Some(Verb::Load)
+        Some(Verb::LoaderLoad)
     } else if word == b"unload".as_slice() {
-        Some(Verb::Unload)
-    } else if word == b"port".as_slice() {
-        Some(Verb::Port)
-    } else if word == b"ip".as_slice() {
-        Some(Verb::Ip)
-    } else if word == b"ether".as_slice() {
-        Some(Verb::Ether)
+        Some(Verb::LoaderUnload)
     } else if word == b"status".as_slice() {
-        Some(Verb::Status)
+        Some(Verb::LoaderStatus)
+    } else {
+        None
+    }
+}
+
+/// The verb of the second word of a line of `xdp-filter`.
+pub fn filter_verb_of(word: &[u8]) -> Option<Verb>
+    ensures { result ≡ filter_verb_of word.now }
+{
+    if word == b"load".as_slice() {
+        Some(Verb::FilterLoad)
+    } else if word == b"unload".as_slice() {
+        Some(Verb::FilterUnload)
+    } else if word == b"port".as_slice() {
+        Some(Verb::FilterPort)
+    } else if word == b"ip".as_slice() {
+        Some(Verb::FilterIp)
+    } else if word == b"ether".as_slice() {
+        Some(Verb::FilterEther)
+    } else if word == b"status".as_slice() {
+        Some(Verb::FilterStatus)
     } else {
         None
     }
@@ -84,8 +122,40 @@ fn is_either(short: &[u8], long: &[u8], word: &[u8]) -> bool
     word == short || word == long
 }
 
-fn load_option(word: &[u8]) -> Role
-    ensures { result ≡ load_option word.now }
+/// What an option of a program's load is.
+fn program_option(word: &[u8]) -> Role
+    ensures { result ≡ program_option word.now }
+{
+    if is_either(b"-m", b"--mode", word) {
+        Role::Setting(Setting::Mode)
+    } else if is_either(b"-n", b"--prog-name", word) {
+        Role::Label(Label::Name)
+    } else if is_either(b"-s", b"--section", word) {
+        Role::Label(Label::Section)
+    } else if is_either(b"-P", b"--prio", word) {
+        Role::Setting(Setting::Priority)
+    } else if is_either(b"-A", b"--actions", word) {
+        Role::Setting(Setting::Actions)
+    } else {
+        Role::Unknown
+    }
+}
+
+/// What an option of a members' unload is.
+fn member_option(word: &[u8]) -> Role
+    ensures { result ≡ member_option word.now }
+{
+    if is_either(b"-i", b"--id", word) {
+        Role::Setting(Setting::Id)
+    } else if is_either(b"-a", b"--all", word) {
+        Role::Switch(Switch::All)
+    } else {
+        Role::Unknown
+    }
+}
+
+fn filter_option(word: &[u8]) -> Role
+    ensures { result ≡ filter_option word.now }
 {
     if is_either(b"-m", b"--mode", word) {
         Role::Setting(Setting::Mode)
@@ -98,8 +168,9 @@ fn load_option(word: &[u8]) -> Role
     }
 }
 
-fn unload_option(word: &[u8]) -> Role
-    ensures { result ≡ unload_option word.now }
+/// What an option of a filter's unload is.
+fn keep_option(word: &[u8]) -> Role
+    ensures { result ≡ keep_option word.now }
 {
     if is_either(b"-k", b"--keep-maps", word) {
         Role::Switch(Switch::Keep)
@@ -136,11 +207,13 @@ fn option_of(verb: Verb, word: &[u8]) -> Role
     ensures { result ≡ option_of verb word.now }
 {
     match verb {
-        Verb::Load => load_option(word),
-        Verb::Unload => unload_option(word),
-        Verb::Port => port_option(word),
-        Verb::Ip | Verb::Ether => address_option(word),
-        Verb::Status => Role::Unknown,
+        Verb::LoaderLoad => program_option(word),
+        Verb::LoaderUnload => member_option(word),
+        Verb::FilterLoad => filter_option(word),
+        Verb::FilterUnload => keep_option(word),
+        Verb::FilterPort => port_option(word),
+        Verb::FilterIp | Verb::FilterEther => address_option(word),
+        Verb::LoaderStatus | Verb::FilterStatus => Role::Unknown,
     }
 }
 
@@ -155,6 +228,13 @@ pub fn role_of(verb: Verb, word: &[u8]) -> Role
     }
 }
 
+/// A number below 2^32.
+fn number_32(word: &[u8]) -> Option<u32>
+    ensures { result ≡ number_32 word.now }
+{
+    number_within(0, u32::MAX, word)
+}
+
 impl Given {
     /// Nothing is given.
     pub fn new() -> Self
@@ -166,8 +246,12 @@ impl Given {
             features: None,
             directions: None,
             protocols: None,
+            priority: None,
+            actions: None,
+            id: None,
             keep: false,
             remove: false,
+            all: false,
         }
     }
 
@@ -193,6 +277,15 @@ impl Given {
             Setting::Protocols if self.protocols.is_none() => {
                 given.protocols = Some(protocols_of(value).ok_or(BAD_CHOICE));
             }
+            Setting::Priority if self.priority.is_none() => {
+                given.priority = Some(number_32(value).ok_or(BAD_NUMBER));
+            }
+            Setting::Actions if self.actions.is_none() => {
+                given.actions = Some(actions_of(value).ok_or(BAD_CHOICE));
+            }
+            Setting::Id if self.id.is_none() => {
+                given.id = Some(number_32(value).ok_or(BAD_NUMBER));
+            }
             _ => return Err(BAD_FORM),
         }
         Ok(given)
@@ -209,6 +302,7 @@ impl Given {
                 remove: true,
                 ..self
             }),
+            Switch::All if !self.all => Ok(Given { all: true, ..self }),
             _ => Err(BAD_FORM),
         }
     }

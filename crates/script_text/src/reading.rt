@@ -1,5 +1,5 @@
 ghost use Rattle.std.specs.Prelude.{◌≡◌};
-ghost use Rattle.script_text.specs.Readings.{both, keeps};
+ghost use Rattle.script_text.specs.Readings.{both, if_given, keeps, or_else};
 ghost use Rattle.script_text.specs.declared.reading.LineEnd.{LineEnd};
 ghost use Rattle.script_text.specs.declared.reading.LineEnd.TheVariants as end;
 
@@ -45,4 +45,25 @@ pub fn keeps(rule: Rule, test: bool) -> Result<(), Rule>
     ensures { result ≡ keeps rule test }
 {
     if test { Ok(()) } else { Err(rule) }
+}
+
+/// What an option gives, or what holds without it.
+pub fn or_else<T: Copy>(given: Option<Result<T, Rule>>, default: T) -> Result<T, Rule>
+    ensures { result ≡ or_else given default }
+{
+    match given {
+        Some(given) => given,
+        None => Ok(default),
+    }
+}
+
+/// What an option gives that may be absent.
+pub fn if_given<T: Copy>(given: Option<Result<T, Rule>>) -> Result<Option<T>, Rule>
+    ensures { result ≡ if_given given }
+{
+    match given {
+        Some(Ok(value)) => Ok(Some(value)),
+        Some(Err(rule)) => Err(rule),
+        None => Ok(None),
+    }
 }

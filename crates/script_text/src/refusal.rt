@@ -45,11 +45,11 @@ pub(crate) fn refusal_print<P: Printer>(printer: &mut P, refusal: LoadRefusal) -
 }
 
 /// Prints a place, and a rule or another place.
-fn print_rule<P: Printer>(
+fn print_rule<'a, P: Printer>(
     printer: &mut P,
-    word: &[u8],
+    word: &'a [u8],
     place: u64,
-    letter: &[u8],
+    letter: &'a [u8],
     rule: u32,
 ) -> Result<(), P::End>
     ensures { Prints P.tells P.counts (P.state printer.old) (P.state printer.new) (rule_text word.now place letter.now rule) result }

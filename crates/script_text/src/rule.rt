@@ -6,7 +6,7 @@ pub type Rule = u8;
 /// A byte is neither printable nor a tab.
 pub const BAD_BYTE: Rule = 1;
 
-/// The first word, or the second behind `xdp-filter`, isn't known.
+/// The first word, or the second behind `xdp-loader` or `xdp-filter`, isn't known.
 pub const UNKNOWN: Rule = 2;
 
 /// Words are missing or too many, or an option is unknown, has no value or stands twice.
@@ -34,3 +34,6 @@ pub const BAD_FRAME: Rule = 10;
 pub const BAD_CHOICE: Rule = 11;
 
 pub const BAD_ADDRESS: Rule = 12;
+
+/// An unload asks for a member and for all, or for neither.
+pub const BAD_UNLOAD: Rule = 13;

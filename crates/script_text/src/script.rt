@@ -1,12 +1,13 @@
 ghost use Rattle.std.specs.Prelude.{◌≡◌, ◌+◌, ◌≤◌, true, length, IfOk};
 ghost use Rattle.std.specs.List.{list_all};
 ghost use Rattle.std.specs.Str.Lines.{lines};
-ghost use Rattle.script_text.specs.Handed.{has_frame, has_processor, has_flags};
+ghost use Rattle.script_text.specs.Handed.{are_printable, has_frame, has_processor, has_flags};
 ghost use Rattle.script_text.specs.Interfaces.{queue_count};
 ghost use Rattle.script_text.specs.Script.{script_of, bad_script, Agrees};
 
 use crate::line::read_line;
 use crate::lines::{has_more_lines, split_line};
+use crate::objects::NameList;
 use crate::reading::LineEnd;
 use crate::rule::Rule;
 use crate::what::LineList;
@@ -16,10 +17,12 @@ use xdp_state::InterfaceList;
 /// The most lines of a script.
 const MOST_LINES: u32 = 65_536;
 
-/// A script: the interfaces that it declares, and what its other lines ask.
+/// A script: the interfaces that it declares, the files of the objects that it loads, and what its other lines ask.
 #[derive(Debug, Drop)]
 pub struct Script {
     pub interfaces: InterfaceList,
+    /// Each once, in the order of the lines that name them first; commands name them by their places.
+    pub objects: NameList,
     pub lines: LineList,
 }
 
@@ -39,11 +42,13 @@ pub fn read_script(alloc: Global, bytes: &[u8]) -> Result<Script, ScriptEnd>
     ensures processors { IfOk result (λ script. list_all (has_processor (queue_count script.interfaces)) script.lines ≡ true) }
     ensures rules { IfOk result (λ script. list_all has_flags script.lines ≡ true) }
     ensures lines { IfOk result (λ script. length script.lines ≤ 65536) }
+    ensures objects { IfOk result (λ script. are_printable script.objects ≡ true) }
     ensures interfaces { IfOk result (λ script. length script.interfaces ≤ 8) }
     ensures queues { IfOk result (λ script. queue_count script.interfaces ≤ 8) }
 {
     let mut script = Script {
         interfaces: InterfaceList::new(alloc),
+        objects: NameList::new(alloc),
         lines: LineList::new(alloc),
     };
     let mut line = 0;

@@ -1,8 +1,9 @@
 //! The words of choices, in one place for what reads them and what prints them.
 
 ghost use Rattle.std.specs.Prelude.{◌≡◌, Some};
-ghost use Rattle.script_text.specs.Vocabulary.{action_name, action_of, policy_name, policy_of, mode_name, mode_of, feature_name, feature_of, address_flag_name, address_flag_of, port_flag_name, port_flag_of, bit_name, bit_of};
+ghost use Rattle.script_text.specs.Vocabulary.{action_name, action_of, policy_name, policy_of, mode_name, mode_of, feature_name, feature_of, address_flag_name, address_flag_of, port_flag_name, port_flag_of, action_bit_name, action_bit_of, bit_name, bit_of};
 
+use crate::actions;
 use filter_rules::{Policy, features, flags};
 use xdp_state::Mode;
 use xio::Action;
@@ -176,6 +177,41 @@ fn port_flag_of(word: &[u8]) -> Option<u8>
     }
 }
 
+/// The word of an action's bit; it is `XDP_REDIRECT` for all but the four lower bits.
+fn action_bit_name(bit: u8) -> &'static [u8]
+    ensures { result.now ≡ action_bit_name bit }
+{
+    if bit == actions::ABORTED {
+        b"XDP_ABORTED"
+    } else if bit == actions::DROP {
+        b"XDP_DROP"
+    } else if bit == actions::PASS {
+        b"XDP_PASS"
+    } else if bit == actions::TX {
+        b"XDP_TX"
+    } else {
+        b"XDP_REDIRECT"
+    }
+}
+
+fn action_bit_of(word: &[u8]) -> Option<u8>
+    ensures { result ≡ action_bit_of word.now }
+{
+    if word == action_bit_name(actions::ABORTED) {
+        Some(actions::ABORTED)
+    } else if word == action_bit_name(actions::DROP) {
+        Some(actions::DROP)
+    } else if word == action_bit_name(actions::PASS) {
+        Some(actions::PASS)
+    } else if word == action_bit_name(actions::TX) {
+        Some(actions::TX)
+    } else if word == action_bit_name(actions::REDIRECT) {
+        Some(actions::REDIRECT)
+    } else {
+        None
+    }
+}
+
 /// What bits have names, of which lists are made.
 #[derive(Clone, Copy, Debug, PartialEq, Eq)]
 pub enum BitNames {
@@ -184,6 +220,7 @@ pub enum BitNames {
     /// Of an address, or of any rule's two directions.
     AddressFlags,
     PortFlags,
+    Actions,
 }
 
 /// The word of a bit.
@@ -194,6 +231,7 @@ pub fn bit_name(names: BitNames, bit: u8) -> &'static [u8]
         BitNames::Features => feature_name(bit),
         BitNames::AddressFlags => address_flag_name(bit),
         BitNames::PortFlags => port_flag_name(bit),
+        BitNames::Actions => action_bit_name(bit),
     }
 }
 
@@ -205,5 +243,6 @@ pub fn bit_of(names: BitNames, word: &[u8]) -> Option<u8>
         BitNames::Features => feature_of(word),
         BitNames::AddressFlags => address_flag_of(word),
         BitNames::PortFlags => port_flag_of(word),
+        BitNames::Actions => action_bit_of(word),
     }
 }

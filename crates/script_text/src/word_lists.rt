@@ -1,11 +1,12 @@
 //! Lists of words with commas between them, in one place for what reads them and what prints them.
 
 ghost use Rattle.std.specs.Prelude.{◌≡◌};
-ghost use Rattle.script_text.specs.Lists.{bits_of, directions_in, directions_of, features_of, flag_names, flags_text, list_text, protocols_in, protocols_of};
+ghost use Rattle.script_text.specs.Lists.{actions_of, bits_of, directions_in, directions_of, features_of, flag_names, flags_text, list_text, mask_text, protocols_in, protocols_of};
 ghost use Rattle.script_text.specs.Pieces.{listed, piece_text};
 ghost use Rattle.script_text.specs.Vocabulary.{bit_name};
 ghost use Rattle.xio.specs.Printing.{Prints};
 
+use crate::actions;
 use crate::parts::first_part;
 use crate::piece::{Piece, print_line};
 use crate::vocabulary::{BitNames, bit_name, bit_of};
@@ -94,6 +95,13 @@ pub fn protocols_of(list: &[u8]) -> Option<Protocols>
     protocols_in(bits_of(BitNames::Features, list)?)
 }
 
+/// The mask of a list of actions.
+pub fn actions_of(list: &[u8]) -> Option<u8>
+    ensures { result ≡ actions_of list.now }
+{
+    bits_of(BitNames::Actions, list)
+}
+
 fn listed(names: BitNames, bits: u8, bit: u8) -> Piece<'static>
     ensures { piece_text result ≡ listed bits bit (bit_name names bit) }
 {
@@ -133,6 +141,16 @@ pub fn list_print<P: Printer>(printer: &mut P, names: BitNames, bits: u8) -> Res
                 listed(names, bits, flags::TARGET_UDP),
             ],
         ),
+        BitNames::Actions => print_line(
+            printer,
+            &[
+                listed(names, bits, actions::ABORTED),
+                listed(names, bits, actions::DROP),
+                listed(names, bits, actions::PASS),
+                listed(names, bits, actions::TX),
+                listed(names, bits, actions::REDIRECT),
+            ],
+        ),
     }
 }
 
@@ -151,4 +169,15 @@ pub fn flags_print<P: Printer>(printer: &mut P, kind: RuleKind, bits: u8) -> Res
     ensures { Prints P.tells P.counts (P.state printer.old) (P.state printer.new) (flags_text kind bits) result }
 {
     list_print(printer, flag_names(kind), bits)
+}
+
+/// Prints the names of a mask's actions, or `-` where it has none.
+#[tactic(auto, unfolding(crate::specs::Lists::mask_text))]
+pub fn mask_print<P: Printer>(printer: &mut P, mask: u8) -> Result<(), P::End>
+    ensures { Prints P.tells P.counts (P.state printer.old) (P.state printer.new) (mask_text mask) result }
+{
+    if mask & actions::ALL == 0 {
+        return printer.print(b"-");
+    }
+    list_print(printer, BitNames::Actions, mask)
 }

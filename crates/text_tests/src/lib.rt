@@ -4,6 +4,8 @@
 #[cfg(test)]
 mod bad_lines;
 #[cfg(test)]
+mod loader;
+#[cfg(test)]
 mod options;
 #[cfg(test)]
 mod texts;

@@ -1,10 +1,13 @@
+use bpf_machine::Cause;
+use btf_types::BadBtf;
+use elf_objects::BadElf;
 use filter_rules::{Policy, RuleKey};
+use object_load::LoadRefusal;
 use script_text::{
     Outcome, TraceRow, end_text, outcome_text, processor_line, rules_text, trace_line,
 };
 use std::alloc::Global;
 use std::test::Fail;
-use bpf_machine::Cause;
 use xdp_state::{Change, Interface, InterfaceList, Kind, Mode, Reason, State, Tally, Visit};
 use xio::{Action, Bytes, OutOfMemory};
 
@@ -22,42 +25,87 @@ fn is_end(alloc: Global, count: u32, wanted: &str) -> bool {
     }
 }
 
+const OUTCOMES: [(Outcome, &str); 5] = [
+    (Outcome::Ok(1), "7 ok 1\n"),
+    (Outcome::Shown, "7 ok\n"),
+    (Outcome::Handed { packets: 3 }, "7 handed 3\n"),
+    (Outcome::Barrier(4), "7 barrier 4\n"),
+    (
+        Outcome::Refused(Reason::BadObject(LoadRefusal::NoProgram)),
+        "7 refused bad object: no program\n",
+    ),
+];
+
 #[test]
 fn outcomes(rt: HostRuntime) {
-    let outcomes = [
-        (Outcome::Ok(1), "7 ok 1\n"),
-        (Outcome::Shown, "7 ok\n"),
-        (Outcome::Handed { packets: 3 }, "7 handed 3\n"),
-        (Outcome::Barrier(4), "7 barrier 4\n"),
-        (
-            Outcome::Refused(Reason::NoInterface),
-            "7 refused no such interface\n",
-        ),
-        (
-            Outcome::Refused(Reason::FilterThere),
-            "7 refused filter there\n",
-        ),
-        (
-            Outcome::Refused(Reason::FilterNotThere),
-            "7 refused filter not there\n",
-        ),
-        (
-            Outcome::Refused(Reason::FeatureMissing),
-            "7 refused feature missing\n",
-        ),
-        (
-            Outcome::Refused(Reason::RulesFull),
-            "7 refused rules full\n",
-        ),
-        (
-            Outcome::Refused(Reason::NoSuchRule),
-            "7 refused no such rule\n",
-        ),
-    ];
-    for (outcome, wanted) in outcomes {
+    for (outcome, wanted) in OUTCOMES {
         assert!(rt; is_outcome(rt.alloc(), &outcome, wanted), "{wanted}");
     }
     assert!(rt; is_end(rt.alloc(), 2, "end 2\n"));
+}
+
+const REASONS: [(Reason, &str); 11] = [
+    (Reason::NoInterface, "no such interface"),
+    (Reason::NoSuchProgram, "no such program"),
+    (Reason::ModeDiffers, "mode differs"),
+    (Reason::ChainFull, "chain full"),
+    (Reason::NothingLoaded, "nothing loaded"),
+    (Reason::NoSuchId, "no such id"),
+    (Reason::FilterThere, "filter there"),
+    (Reason::FilterNotThere, "filter not there"),
+    (Reason::FeatureMissing, "feature missing"),
+    (Reason::RulesFull, "rules full"),
+    (Reason::NoSuchRule, "no such rule"),
+];
+
+const REFUSALS: [(LoadRefusal, &str); 9] = [
+    (
+        LoadRefusal::BadElf(BadElf {
+            offset: 62,
+            rule: 12,
+        }),
+        "elf 62 E12",
+    ),
+    (LoadRefusal::WritableData, "writable data"),
+    (LoadRefusal::NoProgram, "no program"),
+    (LoadRefusal::TooManyPrograms, "too many programs"),
+    (
+        LoadRefusal::BadBtf(BadBtf { offset: 4, rule: 4 }),
+        "btf 4 B4",
+    ),
+    (LoadRefusal::BadConfig { member: 3 }, "config 3"),
+    (LoadRefusal::BadMap { index: 2, rule: 5 }, "map 2 M5"),
+    (
+        LoadRefusal::BadInsn {
+            program: 1,
+            index: 7,
+        },
+        "insn 1 7",
+    ),
+    (
+        LoadRefusal::BadReloc {
+            program: 0,
+            index: 12,
+        },
+        "reloc 0 12",
+    ),
+];
+
+#[test]
+fn reasons(rt: HostRuntime) -> Result<(), Fail> {
+    for (reason, text) in REASONS {
+        let wanted = format!(in rt.alloc(); "7 refused {text}\n")?;
+        assert!(rt;
+            is_outcome(rt.alloc(), &Outcome::Refused(reason), &wanted),
+            "{wanted}"
+        );
+    }
+    for (refusal, text) in REFUSALS {
+        let wanted = format!(in rt.alloc(); "7 refused bad object: {text}\n")?;
+        let outcome = Outcome::Refused(Reason::BadObject(refusal));
+        assert!(rt; is_outcome(rt.alloc(), &outcome, &wanted), "{wanted}");
+    }
+    Ok(())
 }
 
 /// The line of the first processor, which dropped a packet and passed another, each of 14 bytes.

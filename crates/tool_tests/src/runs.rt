@@ -4,6 +4,8 @@ use xdp_tool::{Ended, run_tool};
 use xio::{MemoryFiles, MemorySink, OutOfMemory, Sink};
 
 mod faults;
+mod loader;
+mod objects;
 mod scripts;
 mod words;
 
@@ -93,6 +95,7 @@ fn run(
 ) -> Result<Finished, Fail> {
     let words = words_of(alloc, texts)?;
     let mut files = files_of(alloc, script, outside)?;
+    objects::add_objects(alloc, &mut files)?;
     let mut out = MemorySink::new(alloc, 2000, outside.out)?;
     let mut err = MemorySink::new(alloc, 1000, &[])?;
     let ended = run_tool(alloc, words.as_slice(), &mut files, &mut out, &mut err);

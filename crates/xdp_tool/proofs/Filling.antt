@@ -4,7 +4,7 @@ use Rattle.std.specs.Prelude.{if◌then◌else◌}
 use Rattle.std.specs.Result.{IsErr}
 use Rattle.xio.proofs.PrefixLemmas.{prefix_more}
 use Rattle.xio.specs.Prefixes.{AppendsPrefix}
-use Rattle.xdp_state.specs.declared.interface.Interface.{Interface}
+use Rattle.xdp_state.specs.declared.library.Library.{Library}
 use Rattle.xdp_tool.proofs.Running.{prefix-whole, trace-joined, trace-split}
 use Rattle.xdp_tool.proofs.Working.{not-ok, not-ok-value}
 use Rattle.xdp_tool.specs.Order.{AppendsWhole}
@@ -20,10 +20,10 @@ puts-prefix (Ok x) old new text put = prefix-whole old new text put
 puts-prefix (Err e) old new text put = put
 
 -- a trace's first line, and then its phases
-pub puts-joined : (traced : Bool) (interfaces : List Interface) (phases : List Phase) (choices : List (List (List ℕ))) (worked : Result Bool Stop) (old begun new : List ℕ) → begun ≡ old ++ (if traced then first_line else []) → PutsText worked begun new (traces_for traced interfaces phases choices) → PutsText worked old new (trace_for traced interfaces phases choices)
-puts-joined traced interfaces phases choices (Ok x) old begun new first put = trace-joined traced interfaces phases choices old begun new first put
-puts-joined traced interfaces phases choices (Err e) old begun new first put =
-    rw (trace-split traced interfaces phases choices) (prefix_more _ _ _ _ (rw first at put))
+pub puts-joined : (traced : Bool) (library : Library) (phases : List Phase) (choices : List (List (List ℕ))) (worked : Result Bool Stop) (old begun new : List ℕ) → begun ≡ old ++ (if traced then first_line else []) → PutsText worked begun new (traces_for traced library phases choices) → PutsText worked old new (trace_for traced library phases choices)
+puts-joined traced library phases choices (Ok x) old begun new first put = trace-joined traced library phases choices old begun new first put
+puts-joined traced library phases choices (Err e) old begun new first put =
+    rw (trace-split traced library phases choices) (prefix_more _ _ _ _ (rw first at put))
 
 pub puts-begun : {A : Type 0} (worked : Result A Stop) (old first begun new text : List ℕ) → begun ≡ old ++ first → PutsText worked begun new text → AppendsWhole old new first
 puts-begun (Ok x) old first begun new text is put = (text, put ∙ ap (λ b. b ++ text) is ∙ append_assoc old first text)

@@ -4,21 +4,22 @@ use Rattle.std.proofs.lemmas.Bool.{true≢false, false≢true}
 use Rattle.std.specs.Cmp.Lexicographic.{pointwise}
 use Rattle.std.specs.Prelude.{nat_eq}
 use Rattle.std.proofs.lemmas.Slice.Eq.{bytes_eq-Decides}
-use Rattle.script_text.specs.declared.script.Script.{Script}
 use Rattle.xio.proofs.SetLemmas.{set_at-same}
-use Rattle.xio.specs.Handles.{Handle}
 use Rattle.xio.specs.Lent.{if_told}
 use Rattle.xio.specs.Prefixes.{AppendsPrefix}
-use Rattle.xio.specs.ReadFile.{AsksFor}
 use Rattle.xio.specs.Told.{Told, after_make, set_named, told_beside}
 use Rattle.xio.specs.declared.files.FileFault.TheVariants.{Failed}
 use Rattle.xdp_tool.specs.Ending.{status_of}
-use Rattle.xdp_tool.specs.Headline.{is_end}
+use Rattle.command_line.specs.Names.{Names}
+use Rattle.script_text.specs.declared.script.Script.{Script}
+use Rattle.xdp_tool.specs.Headline.{is_end, made_name, trace_name}
+use Rattle.xdp_tool.specs.Outcome.{IsPrepared}
+use Rattle.xdp_tool.specs.declared.ending.Ending.{Ending}
+use Rattle.xdp_tool.specs.declared.prepared.Prepared.{Prepared}
 use Rattle.xdp_tool.specs.Order.{AppendsWhole}
 use Rattle.xdp_tool.specs.Run.{ending_of}
 use Rattle.xdp_tool.specs.Sinks.{FillsFile, HasBegun, IsTracedUpTo, LeavesTrace}
-use Rattle.xdp_tool.specs.Touched.{IsUnmade, Makes, Reads, TakesWhole, Touches, calls_for, is_other}
-use Rattle.xdp_tool.specs.declared.ending.Ending.{Ending}
+use Rattle.xdp_tool.specs.Touched.{IsUnmade, Makes, Reads, Touches, calls_for, is_other}
 use Rattle.xdp_tool.specs.declared.perform.Stop.{Stop}
 use Rattle.xdp_tool.specs.declared.perform.Stop.TheVariants.{Fault, OutOfMemory}
 
@@ -178,8 +179,8 @@ begun-none N t t₁ None none = tt
 begun-none N t t₁ (Some name) none = inr none
 
 -- a read, and then a trace
-pub touches-both : (t t₁ t₂ : Told) (name : List ℕ) (result : Result Script Ending) (made : Option (List ℕ)) → Reads t t₁ name result → Makes t₁ t₂ made → Touches t t₂ (name ∷ []) made
-touches-both t t₁ t₂ name result made first second = record {
+pub touches-both : (t t₁ t₂ : Told) {A E : Type 0} (names : List (List ℕ)) (result : Result A E) (made : Option (List ℕ)) → Reads t t₁ names result → Makes t₁ t₂ made → Touches t t₂ names made
+touches-both t t₁ t₂ names result made first second = record {
   asked = (first.asked.0, second.asked ∙ first.asked.1);
   made = (second.made.0, second.made.1 ∙ ap (λ calls. calls ++ take second.made.0 (calls_for made)) first.unmade.made);
   content = λ other apart. second.content other apart ∙ ap (λ f. f other) first.unmade.content;
@@ -187,8 +188,8 @@ touches-both t t₁ t₂ name result made first second = record {
 }
 
 -- a read alone
-pub touches-read : (t t₁ : Told) (name : List ℕ) (result : Result Script Ending) (made : Option (List ℕ)) → Reads t t₁ name result → Touches t t₁ (name ∷ []) made
-touches-read t t₁ name result made reads = record {
+pub touches-read : (t t₁ : Told) {A E : Type 0} (names : List (List ℕ)) (result : Result A E) (made : Option (List ℕ)) → Reads t t₁ names result → Touches t t₁ names made
+touches-read t t₁ names result made reads = record {
   asked = reads.asked;
   made = (0, reads.unmade.made ∙ sym (append-nil t.made));
   content = λ other apart. ap (λ f. f other) reads.unmade.content;
@@ -204,40 +205,7 @@ touches-nothing t names made = record {
   flushed = λ other apart. refl;
 }
 
--- the script was taken to its end, whatever was made afterwards
-pub taken-still : (t t₁ t₂ : Told) (name : List ℕ) (made : Option (List ℕ)) → TakesWhole t t₁ name → Makes t₁ t₂ made → TakesWhole t t₂ name
-taken-still t t₁ t₂ name made taken makes = record {
-  asked = makes.asked ∙ taken.asked;
-  whole = ap (λ f. f (length t.asked)) makes.places ∙ taken.whole;
-}
-
--- what a read of the script leaves
-taken-where : {A E : Type 0} (Q : Type 0) (result : Result A E) → Q → OnOk result Q
-taken-where Q (Ok x) q = q
-taken-where Q (Err e) q = tt
-
-pub reads-whole : (handles : ℕ → Handle) (t t' : Told) (name : List ℕ) (result : Result Script Ending) → AsksFor handles t t' name (length (t.content name)) → Reads t t' name result
-reads-whole handles t t' name result asks = record {
-  asked = (1, asks.asked);
-  whole = taken-where (TakesWhole t t' name) result (record {
-    asked = asks.asked;
-    whole = ap (λ f. f (length t.asked)) asks.places ∙ set_at-same t.places (length t.asked) (length (t.content name));
-  });
-  unmade = record { made = asks.made; content = asks.content; flushed = asks.flushed };
-}
-
-pub reads-part : (handles : ℕ → Handle) (t t' : Told) (name : List ℕ) (place : ℕ) (ending : Ending) → AsksFor handles t t' name place → Reads t t' name (Err ending)
-reads-part handles t t' name place ending asks = record {
-  asked = (1, asks.asked);
-  whole = tt;
-  unmade = record { made = asks.made; content = asks.content; flushed = asks.flushed };
-}
-
--- where memory was wanting the file may not have been asked for
-pub reads-wanting : (handles : ℕ → Handle) (t t' : Told) (name : List ℕ) (ending : Ending) → (t' ≡ t) ⊎ ((place : ℕ) × AsksFor handles t t' name place) → Reads t t' name (Err ending)
-reads-wanting handles t t' name ending (inr (place, asks)) = reads-part handles t t' name place ending asks
-reads-wanting handles t t' name ending (inl same) = record {
-  asked = (0, ap (λ (u : Told). u.asked) same ∙ sym (append-nil t.asked));
-  whole = tt;
-  unmade = record { made = ap (λ (u : Told). u.made) same; content = ap (λ (u : Told). u.content) same; flushed = ap (λ (u : Told). u.flushed) same };
-}
+-- a script was prepared, so the trace's file may be made
+pub touches-wanted : (t t₂ : Told) (asked : List (List ℕ)) (content : List ℕ → List ℕ) (names : Result Names Ending) (read : Result Script Ending) {prepared : Prepared} → IsPrepared content read (Ok prepared) → Touches t t₂ asked (trace_name names) → Touches t t₂ asked (made_name names read)
+touches-wanted t t₂ asked content names (Ok script) is touches = touches
+touches-wanted t t₂ asked content names (Err e) {prepared} is touches = absurd cc

@@ -4,9 +4,9 @@ use Rattle.std.proofs.Math.Seq.{take-append_seam, take-length}
 use Rattle.std.specs.Prelude.{if◌then◌else◌}
 use Rattle.xio.proofs.PrefixLemmas.{prefix_more, prefix_of_front}
 use Rattle.xio.specs.Prefixes.{AppendsPrefix}
-use Rattle.xdp_state.specs.declared.interface.Interface.{Interface}
+use Rattle.xdp_state.specs.declared.library.Library.{Library}
 use Rattle.xdp_state.specs.Sums.{Past, no_past}
-use Rattle.xdp_state.specs.Traversals.{Standing}
+use Rattle.xdp_state.specs.Standing.{Standing}
 use Rattle.xdp_tool.proofs.Running.{Grows, Ran, ended-put, needs_in, out-front, out-grows, prefix-whole, ran-none, stopped-trace, text_of, trace-split, traces-for-front, traces-grow, traces-none}
 use Rattle.xdp_tool.specs.Order.{AppendsWhole}
 use Rattle.xdp_tool.specs.PhaseEnd.{EndsChoices, EndsText}
@@ -54,41 +54,41 @@ end-ordered first second choices now counts text more (Err Fault) old held new h
     )
 
 -- a walk stopped between the ends of phases
-pub stopped-ordered : (traced : Bool) (interfaces : List Interface) (done : List Phase) (begun : Begun) (past : Past) (standings : List Standing) (choices : List (List (List ℕ))) (rest : List Phase) (old_out out old_trace trace : List ℕ) → Ran interfaces done begun past standings choices → out ≡ old_out ++ out_for interfaces done choices → trace ≡ old_trace ++ traces_for traced interfaces done choices → Ordered (out_for interfaces (done ++ rest)) (traces_for traced interfaces (done ++ rest)) choices old_out out old_trace trace
-stopped-ordered traced interfaces done begun past standings choices rest old_out out old_trace trace ran whole traces =
-    whole-ordered (out_for interfaces (done ++ rest)) (traces_for traced interfaces (done ++ rest)) choices old_out out old_trace trace
-    (whole ∙ ap (λ t. old_out ++ t) (sym (out-front interfaces done rest choices ran.covered)))
-    (stopped-trace traced interfaces done begun past standings choices rest old_trace trace ran traces)
+pub stopped-ordered : (traced : Bool) (library : Library) (done : List Phase) (begun : Begun) (past : Past) (standings : List Standing) (choices : List (List (List ℕ))) (rest : List Phase) (old_out out old_trace trace : List ℕ) → Ran library done begun past standings choices → out ≡ old_out ++ out_for library done choices → trace ≡ old_trace ++ traces_for traced library done choices → Ordered (out_for library (done ++ rest)) (traces_for traced library (done ++ rest)) choices old_out out old_trace trace
+stopped-ordered traced library done begun past standings choices rest old_out out old_trace trace ran whole traces =
+    whole-ordered (out_for library (done ++ rest)) (traces_for traced library (done ++ rest)) choices old_out out old_trace trace
+    (whole ∙ ap (λ t. old_out ++ t) (sym (out-front library done rest choices ran.covered)))
+    (stopped-trace traced library done begun past standings choices rest old_trace trace ran traces)
 
 -- before the first phase
-pub none-ordered : (traced : Bool) (interfaces : List Interface) (phases : List Phase) (choices : List (List (List ℕ))) (out trace : List ℕ) → choices ≡ [] → Ordered (out_for interfaces phases) (traces_for traced interfaces phases) choices out out trace trace
-none-ordered traced interfaces phases choices out trace none =
-    rw none (stopped-ordered traced interfaces [] no_begun (no_past (length (queues_of interfaces))) (standings_of (queues_of interfaces)) [] phases out out trace trace (ran-none interfaces) (sym (append-nil out)) (traces-none traced interfaces trace))
+pub none-ordered : (traced : Bool) (library : Library) (phases : List Phase) (choices : List (List (List ℕ))) (out trace : List ℕ) → choices ≡ [] → Ordered (out_for library phases) (traces_for traced library phases) choices out out trace trace
+none-ordered traced library phases choices out trace none =
+    rw none (stopped-ordered traced library [] no_begun (no_past (length (queues_of library.interfaces))) (standings_of (queues_of library.interfaces)) [] phases out out trace trace (ran-none library) (sym (append-nil out)) (traces-none traced library trace))
 
-pub ended-ordered : (traced : Bool) (interfaces : List Interface) (done : List Phase) (begun : Begun) (past : Past) (standings : List Standing) (choices now : List (List (List ℕ))) (phase : Phase) (rest : List Phase) (result : Result Unit Stop) (old_out held out old_trace had trace : List ℕ) → Ran interfaces done begun past standings choices → EndsChoices result choices now (needs_in phase) → held ≡ old_out ++ out_for interfaces done choices → EndsText result held out (text_of interfaces past standings phase) → had ≡ old_trace ++ traces_for traced interfaces done choices → EndsText result had trace (traced_text traced (length choices) phase.barrier (at_hand_in standings phase)) → (out ≡ held ++ text_of interfaces past standings phase) ⊎ (trace ≡ had) → Ordered (out_for interfaces (done ++ phase ∷ rest)) (traces_for traced interfaces (done ++ phase ∷ rest)) now old_out out old_trace trace
-ended-ordered traced interfaces done begun past standings choices now phase rest result old_out held out old_trace had trace ran counts is text was traces order =
-    end-ordered (out_for interfaces (done ++ phase ∷ rest)) (traces_for traced interfaces (done ++ phase ∷ rest)) choices now (needs_in phase)
-    (text_of interfaces past standings phase) (traced_text traced (length choices) phase.barrier (at_hand_in standings phase)) result old_out held out old_trace had trace
-    (out-grows interfaces done begun past standings choices phase rest ran) (traces-grow traced interfaces done begun past standings choices phase rest ran) counts
-    (is ∙ ap (λ t. old_out ++ t) (sym (out-front interfaces done (phase ∷ rest) choices ran.covered))) text
-    (was ∙ ap (λ t. old_trace ++ t) (sym (traces-for-front traced interfaces done (phase ∷ rest) choices ran.covered))) traces order
+pub ended-ordered : (traced : Bool) (library : Library) (done : List Phase) (begun : Begun) (past : Past) (standings : List Standing) (choices now : List (List (List ℕ))) (phase : Phase) (rest : List Phase) (result : Result Unit Stop) (old_out held out old_trace had trace : List ℕ) → Ran library done begun past standings choices → EndsChoices result choices now (needs_in phase) → held ≡ old_out ++ out_for library done choices → EndsText result held out (text_of library past standings phase) → had ≡ old_trace ++ traces_for traced library done choices → EndsText result had trace (traced_text traced (length choices) phase.barrier (at_hand_in library standings phase)) → (out ≡ held ++ text_of library past standings phase) ⊎ (trace ≡ had) → Ordered (out_for library (done ++ phase ∷ rest)) (traces_for traced library (done ++ phase ∷ rest)) now old_out out old_trace trace
+ended-ordered traced library done begun past standings choices now phase rest result old_out held out old_trace had trace ran counts is text was traces order =
+    end-ordered (out_for library (done ++ phase ∷ rest)) (traces_for traced library (done ++ phase ∷ rest)) choices now (needs_in phase)
+    (text_of library past standings phase) (traced_text traced (length choices) phase.barrier (at_hand_in library standings phase)) result old_out held out old_trace had trace
+    (out-grows library done begun past standings choices phase rest ran) (traces-grow traced library done begun past standings choices phase rest ran) counts
+    (is ∙ ap (λ t. old_out ++ t) (sym (out-front library done (phase ∷ rest) choices ran.covered))) text
+    (was ∙ ap (λ t. old_trace ++ t) (sym (traces-for-front traced library done (phase ∷ rest) choices ran.covered))) traces order
 
 -- nothing is printed of no phase
-pub none-whole : (interfaces : List Interface) (phases : List Phase) (out : List ℕ) → AppendsWhole out out (out_for interfaces phases [])
-none-whole interfaces phases out = ([], rw (out-front interfaces [] phases [] refl) (sym (append-nil out)))
+pub none-whole : (library : Library) (phases : List Phase) (out : List ℕ) → AppendsWhole out out (out_for library phases [])
+none-whole library phases out = ([], rw (out-front library [] phases [] refl) (sym (append-nil out)))
 
-pub front-begins : (interfaces : List Interface) (phases : List Phase) (old_out out text : List ℕ) → AppendsPrefix old_out out text → AppendsWhole old_out out (out_for interfaces phases [])
-front-begins interfaces phases old_out out text (n, front) = (take n text, rw (out-front interfaces [] phases [] refl) front)
+pub front-begins : (library : Library) (phases : List Phase) (old_out out text : List ℕ) → AppendsPrefix old_out out text → AppendsWhole old_out out (out_for library phases [])
+front-begins library phases old_out out text (n, front) = (take n text, rw (out-front library [] phases [] refl) front)
 
 -- the same of a trace with its first line
-pub begun-ordered : (traced : Bool) (interfaces : List Interface) (phases : List Phase) (choices : List (List (List ℕ))) (old_out out old_trace begun trace : List ℕ) → begun ≡ old_trace ++ (if traced then first_line else []) → Ordered (out_for interfaces phases) (traces_for traced interfaces phases) choices old_out out begun trace → Ordered (out_for interfaces phases) (trace_for traced interfaces phases) choices old_out out old_trace trace
-begun-ordered traced interfaces phases choices old_out out old_trace begun trace first (ended, whole, front) =
-    (ended, whole, rw (trace-split traced interfaces phases (take ended choices)) (prefix_more _ _ _ _ (rw first at front)))
+pub begun-ordered : (traced : Bool) (library : Library) (phases : List Phase) (choices : List (List (List ℕ))) (old_out out old_trace begun trace : List ℕ) → begun ≡ old_trace ++ (if traced then first_line else []) → Ordered (out_for library phases) (traces_for traced library phases) choices old_out out begun trace → Ordered (out_for library phases) (trace_for traced library phases) choices old_out out old_trace trace
+begun-ordered traced library phases choices old_out out old_trace begun trace first (ended, whole, front) =
+    (ended, whole, rw (trace-split traced library phases (take ended choices)) (prefix_more _ _ _ _ (rw first at front)))
 
 -- the first line was cut short
-pub unbegun-ordered : (traced : Bool) (interfaces : List Interface) (phases : List Phase) (choices : List (List (List ℕ))) (out old_trace trace : List ℕ) → AppendsPrefix old_trace trace (if traced then first_line else []) → Ordered (out_for interfaces phases) (trace_for traced interfaces phases) choices out out old_trace trace
-unbegun-ordered traced interfaces phases choices out old_trace trace front =
-    (0, none-whole interfaces phases out, rw (trace-split traced interfaces phases (take 0 choices)) (prefix_of_front _ _ _ _ front))
+pub unbegun-ordered : (traced : Bool) (library : Library) (phases : List Phase) (choices : List (List (List ℕ))) (out old_trace trace : List ℕ) → AppendsPrefix old_trace trace (if traced then first_line else []) → Ordered (out_for library phases) (trace_for traced library phases) choices out out old_trace trace
+unbegun-ordered traced library phases choices out old_trace trace front =
+    (0, none-whole library phases out, rw (trace-split traced library phases (take 0 choices)) (prefix_of_front _ _ _ _ front))
 
-pub settled-ordered : (traced : Bool) (interfaces : List Interface) (phases : List Phase) (choices : List (List (List ℕ))) (old_out out settled old_trace trace had : List ℕ) → settled ≡ out → had ≡ trace → Ordered (out_for interfaces phases) (trace_for traced interfaces phases) choices old_out out old_trace trace → Ordered (out_for interfaces phases) (trace_for traced interfaces phases) choices old_out settled old_trace had
-settled-ordered traced interfaces phases choices old_out out settled old_trace trace had same also ordered = rw (same, also) ordered
+pub settled-ordered : (traced : Bool) (library : Library) (phases : List Phase) (choices : List (List (List ℕ))) (old_out out settled old_trace trace had : List ℕ) → settled ≡ out → had ≡ trace → Ordered (out_for library phases) (trace_for traced library phases) choices old_out out old_trace trace → Ordered (out_for library phases) (trace_for traced library phases) choices old_out settled old_trace had
+settled-ordered traced library phases choices old_out out settled old_trace trace had same also ordered = rw (same, also) ordered

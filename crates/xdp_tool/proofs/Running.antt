@@ -5,9 +5,10 @@ use Rattle.std.specs.Prelude.{if◌then◌else◌}
 use Rattle.xio.specs.Prefixes.{AppendsPrefix}
 use Rattle.xdp_state.specs.Legal.{AreLegalAfter, AreLegalFrom, AreLegal}
 use Rattle.xdp_state.specs.Sums.{Past, no_past, past_with}
-use Rattle.xdp_state.specs.Traversals.{Standing, standings_in}
+use Rattle.xdp_state.specs.Standing.{Standing}
+use Rattle.xdp_state.specs.Traversals.{standings_in}
 use Rattle.xdp_state.specs.Work.{all_needs}
-use Rattle.xdp_state.specs.declared.interface.Interface.{Interface}
+use Rattle.xdp_state.specs.declared.library.Library.{Library}
 use Rattle.xdp_tool.proofs.Counts.{AllWithin, lasts_after, lasts_after-more, lasts-within, legal-more, legal-front, legal-steady, plans}
 use Rattle.xdp_tool.proofs.Phases.{length-traversals, past_after, past_after-more, refusal-more, standings_after, standings_after-more, texts-front, texts-more, traces-front, traces-more, traversals-front, traversals-more}
 use Rattle.xdp_tool.specs.PhaseEnd.{EndsChoices, EndsText, PutsText}
@@ -23,16 +24,16 @@ use Rattle.xdp_tool.specs.declared.perform.Stop.{Stop}
 use Rattle.xdp_tool.specs.declared.perform.Stop.TheVariants.{Fault, OutOfMemory}
 
 -- the phases that have ended, what they leave for the next one, and the counts of their packets
-pub record Ran (interfaces : List Interface) (done : List Phase) (begun : Begun) (past : Past) (standings : List Standing) (choices : List (List (List ℕ))) : Type 0 where
+pub record Ran (library : Library) (done : List Phase) (begun : Begun) (past : Past) (standings : List Standing) (choices : List (List (List ℕ))) : Type 0 where
   pub covered : length choices ≡ length done
   pub legal : AreLegalAfter [] (plans done) choices
   pub lasts : AllWithin (length begun.published) (lasts_after [] choices)
-  pub stands : standings ≡ standings_after (standings_of (queues_of interfaces)) done choices
-  pub counted : past ≡ past_after (no_past (length (queues_of interfaces))) (traversed interfaces done choices)
+  pub stands : standings ≡ standings_after library (standings_of (queues_of library.interfaces)) done choices
+  pub counted : past ≡ past_after (no_past (length (queues_of library.interfaces))) (traversed library done choices)
   pub refused : begun.refused ≡ has_refusal done
 
-pub ran-none : (interfaces : List Interface) → Ran interfaces [] no_begun (no_past (length (queues_of interfaces))) (standings_of (queues_of interfaces)) []
-ran-none interfaces = record { covered = refl; legal = tt; lasts = tt; stands = refl; counted = refl; refused = refl }
+pub ran-none : (library : Library) → Ran library [] no_begun (no_past (length (queues_of library.interfaces))) (standings_of (queues_of library.interfaces)) []
+ran-none library = record { covered = refl; legal = tt; lasts = tt; stands = refl; counted = refl; refused = refl }
 
 -- what a walk says of its phase
 pub record Steps (begun : Begun) (phase : Phase) : Type 0 where
@@ -44,72 +45,72 @@ abbrev pub needs_in : Phase → List (List ℕ)
 needs_in phase = all_needs phase.work.hand_ins
 
 -- what is printed of a phase whose packets were carried at hand-in
-abbrev pub text_of : List Interface → Past → List Standing → Phase → List ℕ
-text_of interfaces past standings phase = phase_text interfaces phase past (past_with past (at_hand_in standings phase))
+abbrev pub text_of : Library → Past → List Standing → Phase → List ℕ
+text_of library past standings phase = phase_text library phase past (past_with past (at_hand_in library standings phase))
 
-legal-this : (interfaces : List Interface) (done : List Phase) (begun : Begun) (past : Past) (standings : List Standing) (choices : List (List (List ℕ))) (phase : Phase) → Ran interfaces done begun past standings choices → Steps begun phase → AreLegalFrom (lasts_after [] choices) (length phase.work.published) (needs_in phase) (needs_in phase)
-legal-this interfaces done begun past standings choices phase ran steps =
+legal-this : (library : Library) (done : List Phase) (begun : Begun) (past : Past) (standings : List Standing) (choices : List (List (List ℕ))) (phase : Phase) → Ran library done begun past standings choices → Steps begun phase → AreLegalFrom (lasts_after [] choices) (length phase.work.published) (needs_in phase) (needs_in phase)
+legal-this library done begun past standings choices phase ran steps =
     legal-steady (length begun.published) (length phase.work.published) (lasts_after [] choices) phase.work.hand_ins ran.lasts steps.steady
 
-traversed-more : (interfaces : List Interface) (done : List Phase) (begun : Begun) (past : Past) (standings : List Standing) (choices : List (List (List ℕ))) (phase : Phase) (rest : List Phase) → Ran interfaces done begun past standings choices → traversed interfaces (done ++ phase ∷ rest) (choices ++ needs_in phase ∷ []) ≡ traversed interfaces done choices ++ at_hand_in standings phase ∷ []
-traversed-more interfaces done begun past standings choices phase rest ran =
-    rw ran.stands (traversals-more (standings_of (queues_of interfaces)) done phase rest choices (needs_in phase) ran.covered)
+traversed-more : (library : Library) (done : List Phase) (begun : Begun) (past : Past) (standings : List Standing) (choices : List (List (List ℕ))) (phase : Phase) (rest : List Phase) → Ran library done begun past standings choices → traversed library (done ++ phase ∷ rest) (choices ++ needs_in phase ∷ []) ≡ traversed library done choices ++ at_hand_in library standings phase ∷ []
+traversed-more library done begun past standings choices phase rest ran =
+    rw ran.stands (traversals-more library (standings_of (queues_of library.interfaces)) done phase rest choices (needs_in phase) ran.covered)
 
-length-carried : (interfaces : List Interface) (done : List Phase) (choices : List (List (List ℕ))) → length choices ≡ length done → length (traversed interfaces done choices) ≡ length done
-length-carried interfaces done choices same = length-traversals (standings_of (queues_of interfaces)) done choices same
+length-carried : (library : Library) (done : List Phase) (choices : List (List (List ℕ))) → length choices ≡ length done → length (traversed library done choices) ≡ length done
+length-carried library done choices same = length-traversals library (standings_of (queues_of library.interfaces)) done choices same
 
 -- a phase more
-pub ran-more : (interfaces : List Interface) (done : List Phase) (begun : Begun) (past : Past) (standings : List Standing) (choices : List (List (List ℕ))) (phase : Phase) → Ran interfaces done begun past standings choices → Steps begun phase → Ran interfaces (done ++ phase ∷ []) (begun_after begun phase) (past_with past (at_hand_in standings phase)) (standings_in phase.work.published standings phase.work.hand_ins (needs_in phase)) (choices ++ needs_in phase ∷ [])
-ran-more interfaces done begun past standings choices phase ran steps = record {
+pub ran-more : (library : Library) (done : List Phase) (begun : Begun) (past : Past) (standings : List Standing) (choices : List (List (List ℕ))) (phase : Phase) → Ran library done begun past standings choices → Steps begun phase → Ran library (done ++ phase ∷ []) (begun_after begun phase) (past_with past (at_hand_in library standings phase)) (standings_in library phase.work.published standings phase.work.hand_ins (needs_in phase)) (choices ++ needs_in phase ∷ [])
+ran-more library done begun past standings choices phase ran steps = record {
   covered = omega (arith, length-append choices (needs_in phase ∷ []), length-append done (phase ∷ []), ran.covered);
-  legal = legal-more [] done phase [] choices (needs_in phase) ran.covered ran.legal (legal-this interfaces done begun past standings choices phase ran steps);
+  legal = legal-more [] done phase [] choices (needs_in phase) ran.covered ran.legal (legal-this library done begun past standings choices phase ran steps);
   lasts = rw (lasts_after-more [] choices (needs_in phase))
       (lasts-within (length begun.published) (length phase.work.published) (lasts_after [] choices) phase.work.hand_ins steps.grown ran.lasts steps.steady);
-  stands = ap (λ ss. standings_in phase.work.published ss phase.work.hand_ins (needs_in phase)) ran.stands
-      ∙ sym (standings_after-more (standings_of (queues_of interfaces)) done phase choices (needs_in phase) ran.covered);
-  counted = ap (λ p. past_with p (at_hand_in standings phase)) ran.counted
-      ∙ sym (past_after-more (no_past (length (queues_of interfaces))) (traversed interfaces done choices) (at_hand_in standings phase))
-      ∙ ap (past_after (no_past (length (queues_of interfaces)))) (sym (traversed-more interfaces done begun past standings choices phase [] ran));
+  stands = ap (λ ss. standings_in library phase.work.published ss phase.work.hand_ins (needs_in phase)) ran.stands
+      ∙ sym (standings_after-more library (standings_of (queues_of library.interfaces)) done phase choices (needs_in phase) ran.covered);
+  counted = ap (λ p. past_with p (at_hand_in library standings phase)) ran.counted
+      ∙ sym (past_after-more (no_past (length (queues_of library.interfaces))) (traversed library done choices) (at_hand_in library standings phase))
+      ∙ ap (past_after (no_past (length (queues_of library.interfaces)))) (sym (traversed-more library done begun past standings choices phase [] ran));
   refused = rw (refusal-more done phase, ← ran.refused) refl;
 }
 
 -- the counts so far are legal for the plan, whether the phase ended or memory was wanting
-pub ended-legal : (interfaces : List Interface) (done : List Phase) (begun : Begun) (past : Past) (standings : List Standing) (choices now : List (List (List ℕ))) (phase : Phase) (rest : List Phase) (result : Result Unit Stop) → Ran interfaces done begun past standings choices → Steps begun phase → EndsChoices result choices now (needs_in phase) → AreLegal (plans (done ++ phase ∷ rest)) now
-ended-legal interfaces done begun past standings choices now phase rest (Ok _) ran steps is =
-    rw is (legal-more [] done phase rest choices (needs_in phase) ran.covered ran.legal (legal-this interfaces done begun past standings choices phase ran steps))
-ended-legal interfaces done begun past standings choices now phase rest (Err Fault) ran steps is =
-    rw is (legal-more [] done phase rest choices (needs_in phase) ran.covered ran.legal (legal-this interfaces done begun past standings choices phase ran steps))
-ended-legal interfaces done begun past standings choices now phase rest (Err OutOfMemory) ran steps is =
+pub ended-legal : (library : Library) (done : List Phase) (begun : Begun) (past : Past) (standings : List Standing) (choices now : List (List (List ℕ))) (phase : Phase) (rest : List Phase) (result : Result Unit Stop) → Ran library done begun past standings choices → Steps begun phase → EndsChoices result choices now (needs_in phase) → AreLegal (plans (done ++ phase ∷ rest)) now
+ended-legal library done begun past standings choices now phase rest (Ok _) ran steps is =
+    rw is (legal-more [] done phase rest choices (needs_in phase) ran.covered ran.legal (legal-this library done begun past standings choices phase ran steps))
+ended-legal library done begun past standings choices now phase rest (Err Fault) ran steps is =
+    rw is (legal-more [] done phase rest choices (needs_in phase) ran.covered ran.legal (legal-this library done begun past standings choices phase ran steps))
+ended-legal library done begun past standings choices now phase rest (Err OutOfMemory) ran steps is =
     rw is (legal-front [] done (phase ∷ rest) choices ran.legal)
 
-pub stopped-legal : (interfaces : List Interface) (done : List Phase) (begun : Begun) (past : Past) (standings : List Standing) (choices : List (List (List ℕ))) (rest : List Phase) → Ran interfaces done begun past standings choices → AreLegal (plans (done ++ rest)) choices
-stopped-legal interfaces done begun past standings choices rest ran = legal-front [] done rest choices ran.legal
+pub stopped-legal : (library : Library) (done : List Phase) (begun : Begun) (past : Past) (standings : List Standing) (choices : List (List (List ℕ))) (rest : List Phase) → Ran library done begun past standings choices → AreLegal (plans (done ++ rest)) choices
+stopped-legal library done begun past standings choices rest ran = legal-front [] done rest choices ran.legal
 
 -- what one phase more prints and leaves in the trace
-pub out-more : (interfaces : List Interface) (done : List Phase) (begun : Begun) (past : Past) (standings : List Standing) (choices : List (List (List ℕ))) (phase : Phase) (rest : List Phase) → Ran interfaces done begun past standings choices → out_for interfaces (done ++ phase ∷ rest) (choices ++ needs_in phase ∷ []) ≡ out_for interfaces done choices ++ text_of interfaces past standings phase
-out-more interfaces done begun past standings choices phase rest ran =
-    ap (texts_from interfaces (no_past (length (queues_of interfaces))) (done ++ phase ∷ rest)) (traversed-more interfaces done begun past standings choices phase rest ran)
-    ∙ texts-more interfaces (no_past (length (queues_of interfaces))) done phase rest (traversed interfaces done choices) (at_hand_in standings phase) (length-carried interfaces done choices ran.covered)
-    ∙ ap (λ p. out_for interfaces done choices ++ phase_text interfaces phase p (past_with p (at_hand_in standings phase))) (sym ran.counted)
+pub out-more : (library : Library) (done : List Phase) (begun : Begun) (past : Past) (standings : List Standing) (choices : List (List (List ℕ))) (phase : Phase) (rest : List Phase) → Ran library done begun past standings choices → out_for library (done ++ phase ∷ rest) (choices ++ needs_in phase ∷ []) ≡ out_for library done choices ++ text_of library past standings phase
+out-more library done begun past standings choices phase rest ran =
+    ap (texts_from library (no_past (length (queues_of library.interfaces))) (done ++ phase ∷ rest)) (traversed-more library done begun past standings choices phase rest ran)
+    ∙ texts-more library (no_past (length (queues_of library.interfaces))) done phase rest (traversed library done choices) (at_hand_in library standings phase) (length-carried library done choices ran.covered)
+    ∙ ap (λ p. out_for library done choices ++ phase_text library phase p (past_with p (at_hand_in library standings phase))) (sym ran.counted)
 
-pub out-front : (interfaces : List Interface) (done rest : List Phase) (choices : List (List (List ℕ))) → length choices ≡ length done → out_for interfaces (done ++ rest) choices ≡ out_for interfaces done choices
-out-front interfaces done rest choices same =
-    ap (texts_from interfaces (no_past (length (queues_of interfaces))) (done ++ rest)) (traversals-front (standings_of (queues_of interfaces)) done rest choices same)
-    ∙ texts-front interfaces (no_past (length (queues_of interfaces))) done rest (traversed interfaces done choices) (length-carried interfaces done choices same)
+pub out-front : (library : Library) (done rest : List Phase) (choices : List (List (List ℕ))) → length choices ≡ length done → out_for library (done ++ rest) choices ≡ out_for library done choices
+out-front library done rest choices same =
+    ap (texts_from library (no_past (length (queues_of library.interfaces))) (done ++ rest)) (traversals-front library (standings_of (queues_of library.interfaces)) done rest choices same)
+    ∙ texts-front library (no_past (length (queues_of library.interfaces))) done rest (traversed library done choices) (length-carried library done choices same)
 
-pub traces-for-more : (traced : Bool) (interfaces : List Interface) (done : List Phase) (begun : Begun) (past : Past) (standings : List Standing) (choices : List (List (List ℕ))) (phase : Phase) (rest : List Phase) → Ran interfaces done begun past standings choices → traces_for traced interfaces (done ++ phase ∷ rest) (choices ++ needs_in phase ∷ []) ≡ traces_for traced interfaces done choices ++ traced_text traced (length choices) phase.barrier (at_hand_in standings phase)
-traces-for-more true interfaces done begun past standings choices phase rest ran =
-    let number : 0 + length (traversed interfaces done choices) ≡ length choices = omega (arith, length-carried interfaces done choices ran.covered, ran.covered) in
-    ap (traces_from 0 (done ++ phase ∷ rest)) (traversed-more interfaces done begun past standings choices phase rest ran)
-    ∙ traces-more 0 done phase rest (traversed interfaces done choices) (at_hand_in standings phase) (length-carried interfaces done choices ran.covered)
-    ∙ ap (λ n. traces_for true interfaces done choices ++ traced_text true n phase.barrier (at_hand_in standings phase)) number
-traces-for-more false interfaces done begun past standings choices phase rest ran = refl
+pub traces-for-more : (traced : Bool) (library : Library) (done : List Phase) (begun : Begun) (past : Past) (standings : List Standing) (choices : List (List (List ℕ))) (phase : Phase) (rest : List Phase) → Ran library done begun past standings choices → traces_for traced library (done ++ phase ∷ rest) (choices ++ needs_in phase ∷ []) ≡ traces_for traced library done choices ++ traced_text traced (length choices) phase.barrier (at_hand_in library standings phase)
+traces-for-more true library done begun past standings choices phase rest ran =
+    let number : 0 + length (traversed library done choices) ≡ length choices = omega (arith, length-carried library done choices ran.covered, ran.covered) in
+    ap (traces_from 0 (done ++ phase ∷ rest)) (traversed-more library done begun past standings choices phase rest ran)
+    ∙ traces-more 0 done phase rest (traversed library done choices) (at_hand_in library standings phase) (length-carried library done choices ran.covered)
+    ∙ ap (λ n. traces_for true library done choices ++ traced_text true n phase.barrier (at_hand_in library standings phase)) number
+traces-for-more false library done begun past standings choices phase rest ran = refl
 
-pub traces-for-front : (traced : Bool) (interfaces : List Interface) (done rest : List Phase) (choices : List (List (List ℕ))) → length choices ≡ length done → traces_for traced interfaces (done ++ rest) choices ≡ traces_for traced interfaces done choices
-traces-for-front true interfaces done rest choices same =
-    ap (traces_from 0 (done ++ rest)) (traversals-front (standings_of (queues_of interfaces)) done rest choices same)
-    ∙ traces-front 0 done rest (traversed interfaces done choices) (length-carried interfaces done choices same)
-traces-for-front false interfaces done rest choices same = refl
+pub traces-for-front : (traced : Bool) (library : Library) (done rest : List Phase) (choices : List (List (List ℕ))) → length choices ≡ length done → traces_for traced library (done ++ rest) choices ≡ traces_for traced library done choices
+traces-for-front true library done rest choices same =
+    ap (traces_from 0 (done ++ rest)) (traversals-front library (standings_of (queues_of library.interfaces)) done rest choices same)
+    ∙ traces-front 0 done rest (traversed library done choices) (length-carried library done choices same)
+traces-for-front false library done rest choices same = refl
 
 -- what a text of phases has more with the counts of one phase more
 abbrev pub Grows : (List (List (List ℕ)) → List ℕ) → List (List (List ℕ)) → List (List ℕ) → List ℕ → Type 0
@@ -129,39 +130,39 @@ ended-put text_of choices now counts text (Err OutOfMemory) old held after grows
     let k = length (text_of choices) in
     (k, ended ∙ (was ∙ ap (λ t. old ++ t) (sym (take-length (text_of choices)) ∙ ap (take k) (ap text_of (sym is)))))
 
-pub out-grows : (interfaces : List Interface) (done : List Phase) (begun : Begun) (past : Past) (standings : List Standing) (choices : List (List (List ℕ))) (phase : Phase) (rest : List Phase) → Ran interfaces done begun past standings choices → Grows (out_for interfaces (done ++ phase ∷ rest)) choices (needs_in phase) (text_of interfaces past standings phase)
-out-grows interfaces done begun past standings choices phase rest ran =
-    out-more interfaces done begun past standings choices phase rest ran
-    ∙ ap (λ t. t ++ text_of interfaces past standings phase) (sym (out-front interfaces done (phase ∷ rest) choices ran.covered))
+pub out-grows : (library : Library) (done : List Phase) (begun : Begun) (past : Past) (standings : List Standing) (choices : List (List (List ℕ))) (phase : Phase) (rest : List Phase) → Ran library done begun past standings choices → Grows (out_for library (done ++ phase ∷ rest)) choices (needs_in phase) (text_of library past standings phase)
+out-grows library done begun past standings choices phase rest ran =
+    out-more library done begun past standings choices phase rest ran
+    ∙ ap (λ t. t ++ text_of library past standings phase) (sym (out-front library done (phase ∷ rest) choices ran.covered))
 
-pub traces-grow : (traced : Bool) (interfaces : List Interface) (done : List Phase) (begun : Begun) (past : Past) (standings : List Standing) (choices : List (List (List ℕ))) (phase : Phase) (rest : List Phase) → Ran interfaces done begun past standings choices → Grows (traces_for traced interfaces (done ++ phase ∷ rest)) choices (needs_in phase) (traced_text traced (length choices) phase.barrier (at_hand_in standings phase))
-traces-grow traced interfaces done begun past standings choices phase rest ran =
-    traces-for-more traced interfaces done begun past standings choices phase rest ran
-    ∙ ap (λ t. t ++ traced_text traced (length choices) phase.barrier (at_hand_in standings phase)) (sym (traces-for-front traced interfaces done (phase ∷ rest) choices ran.covered))
+pub traces-grow : (traced : Bool) (library : Library) (done : List Phase) (begun : Begun) (past : Past) (standings : List Standing) (choices : List (List (List ℕ))) (phase : Phase) (rest : List Phase) → Ran library done begun past standings choices → Grows (traces_for traced library (done ++ phase ∷ rest)) choices (needs_in phase) (traced_text traced (length choices) phase.barrier (at_hand_in library standings phase))
+traces-grow traced library done begun past standings choices phase rest ran =
+    traces-for-more traced library done begun past standings choices phase rest ran
+    ∙ ap (λ t. t ++ traced_text traced (length choices) phase.barrier (at_hand_in library standings phase)) (sym (traces-for-front traced library done (phase ∷ rest) choices ran.covered))
 
-pub ended-out : (interfaces : List Interface) (done : List Phase) (begun : Begun) (past : Past) (standings : List Standing) (choices now : List (List (List ℕ))) (phase : Phase) (rest : List Phase) (result : Result Unit Stop) (old held after : List ℕ) → Ran interfaces done begun past standings choices → EndsChoices result choices now (needs_in phase) → held ≡ old ++ out_for interfaces done choices → EndsText result held after (text_of interfaces past standings phase) → PutsText result old after (out_for interfaces (done ++ phase ∷ rest) now)
-ended-out interfaces done begun past standings choices now phase rest result old held after ran counts is ended =
-    ended-put (out_for interfaces (done ++ phase ∷ rest)) choices now (needs_in phase) (text_of interfaces past standings phase) result old held after
-    (out-grows interfaces done begun past standings choices phase rest ran) counts
-    (is ∙ ap (λ t. old ++ t) (sym (out-front interfaces done (phase ∷ rest) choices ran.covered))) ended
+pub ended-out : (library : Library) (done : List Phase) (begun : Begun) (past : Past) (standings : List Standing) (choices now : List (List (List ℕ))) (phase : Phase) (rest : List Phase) (result : Result Unit Stop) (old held after : List ℕ) → Ran library done begun past standings choices → EndsChoices result choices now (needs_in phase) → held ≡ old ++ out_for library done choices → EndsText result held after (text_of library past standings phase) → PutsText result old after (out_for library (done ++ phase ∷ rest) now)
+ended-out library done begun past standings choices now phase rest result old held after ran counts is ended =
+    ended-put (out_for library (done ++ phase ∷ rest)) choices now (needs_in phase) (text_of library past standings phase) result old held after
+    (out-grows library done begun past standings choices phase rest ran) counts
+    (is ∙ ap (λ t. old ++ t) (sym (out-front library done (phase ∷ rest) choices ran.covered))) ended
 
-pub ended-trace : (traced : Bool) (interfaces : List Interface) (done : List Phase) (begun : Begun) (past : Past) (standings : List Standing) (choices now : List (List (List ℕ))) (phase : Phase) (rest : List Phase) (result : Result Unit Stop) (old held after : List ℕ) → Ran interfaces done begun past standings choices → EndsChoices result choices now (needs_in phase) → held ≡ old ++ traces_for traced interfaces done choices → EndsText result held after (traced_text traced (length choices) phase.barrier (at_hand_in standings phase)) → PutsText result old after (traces_for traced interfaces (done ++ phase ∷ rest) now)
-ended-trace traced interfaces done begun past standings choices now phase rest result old held after ran counts is ended =
-    ended-put (traces_for traced interfaces (done ++ phase ∷ rest)) choices now (needs_in phase) (traced_text traced (length choices) phase.barrier (at_hand_in standings phase)) result old held after
-    (traces-grow traced interfaces done begun past standings choices phase rest ran) counts
-    (is ∙ ap (λ t. old ++ t) (sym (traces-for-front traced interfaces done (phase ∷ rest) choices ran.covered))) ended
+pub ended-trace : (traced : Bool) (library : Library) (done : List Phase) (begun : Begun) (past : Past) (standings : List Standing) (choices now : List (List (List ℕ))) (phase : Phase) (rest : List Phase) (result : Result Unit Stop) (old held after : List ℕ) → Ran library done begun past standings choices → EndsChoices result choices now (needs_in phase) → held ≡ old ++ traces_for traced library done choices → EndsText result held after (traced_text traced (length choices) phase.barrier (at_hand_in library standings phase)) → PutsText result old after (traces_for traced library (done ++ phase ∷ rest) now)
+ended-trace traced library done begun past standings choices now phase rest result old held after ran counts is ended =
+    ended-put (traces_for traced library (done ++ phase ∷ rest)) choices now (needs_in phase) (traced_text traced (length choices) phase.barrier (at_hand_in library standings phase)) result old held after
+    (traces-grow traced library done begun past standings choices phase rest ran) counts
+    (is ∙ ap (λ t. old ++ t) (sym (traces-for-front traced library done (phase ∷ rest) choices ran.covered))) ended
 
 pub prefix-whole : (old new text : List ℕ) → new ≡ old ++ text → AppendsPrefix old new text
 prefix-whole old new text whole = (length text, whole ∙ ap (λ t. old ++ t) (sym (take-length text)))
 
 -- a walk that stopped between the ends of phases wrote nothing more
-pub stopped-out : (interfaces : List Interface) (done : List Phase) (begun : Begun) (past : Past) (standings : List Standing) (choices : List (List (List ℕ))) (rest : List Phase) (old held : List ℕ) → Ran interfaces done begun past standings choices → held ≡ old ++ out_for interfaces done choices → AppendsPrefix old held (out_for interfaces (done ++ rest) choices)
-stopped-out interfaces done begun past standings choices rest old held ran is =
-    prefix-whole old held _ (is ∙ ap (λ t. old ++ t) (sym (out-front interfaces done rest choices ran.covered)))
+pub stopped-out : (library : Library) (done : List Phase) (begun : Begun) (past : Past) (standings : List Standing) (choices : List (List (List ℕ))) (rest : List Phase) (old held : List ℕ) → Ran library done begun past standings choices → held ≡ old ++ out_for library done choices → AppendsPrefix old held (out_for library (done ++ rest) choices)
+stopped-out library done begun past standings choices rest old held ran is =
+    prefix-whole old held _ (is ∙ ap (λ t. old ++ t) (sym (out-front library done rest choices ran.covered)))
 
-pub stopped-trace : (traced : Bool) (interfaces : List Interface) (done : List Phase) (begun : Begun) (past : Past) (standings : List Standing) (choices : List (List (List ℕ))) (rest : List Phase) (old held : List ℕ) → Ran interfaces done begun past standings choices → held ≡ old ++ traces_for traced interfaces done choices → AppendsPrefix old held (traces_for traced interfaces (done ++ rest) choices)
-stopped-trace traced interfaces done begun past standings choices rest old held ran is =
-    prefix-whole old held _ (is ∙ ap (λ t. old ++ t) (sym (traces-for-front traced interfaces done rest choices ran.covered)))
+pub stopped-trace : (traced : Bool) (library : Library) (done : List Phase) (begun : Begun) (past : Past) (standings : List Standing) (choices : List (List (List ℕ))) (rest : List Phase) (old held : List ℕ) → Ran library done begun past standings choices → held ≡ old ++ traces_for traced library done choices → AppendsPrefix old held (traces_for traced library (done ++ rest) choices)
+stopped-trace traced library done begun past standings choices rest old held ran is =
+    prefix-whole old held _ (is ∙ ap (λ t. old ++ t) (sym (traces-for-front traced library done rest choices ran.covered)))
 
 -- a whole text was put, or its front
 pub puts-whole : {A E : Type 0} (result : Result A E) (old new text : List ℕ) → new ≡ old ++ text → PutsText result old new text
@@ -169,16 +170,16 @@ puts-whole (Ok x) old new text whole = whole
 puts-whole (Err e) old new text whole = (length text, whole ∙ ap (λ t. old ++ t) (sym (take-length text)))
 
 -- a trace is its first line and its phases
-pub trace-split : (traced : Bool) (interfaces : List Interface) (phases : List Phase) (choices : List (List (List ℕ))) → trace_for traced interfaces phases choices ≡ (if traced then first_line else []) ++ traces_for traced interfaces phases choices
-trace-split true interfaces phases choices = refl
-trace-split false interfaces phases choices = refl
+pub trace-split : (traced : Bool) (library : Library) (phases : List Phase) (choices : List (List (List ℕ))) → trace_for traced library phases choices ≡ (if traced then first_line else []) ++ traces_for traced library phases choices
+trace-split true library phases choices = refl
+trace-split false library phases choices = refl
 
 -- before the first phase has ended the trace has no phase
-pub traces-none : (traced : Bool) (interfaces : List Interface) (old : List ℕ) → old ≡ old ++ traces_for traced interfaces [] []
-traces-none true interfaces old = sym (append-nil old)
-traces-none false interfaces old = sym (append-nil old)
+pub traces-none : (traced : Bool) (library : Library) (old : List ℕ) → old ≡ old ++ traces_for traced library [] []
+traces-none true library old = sym (append-nil old)
+traces-none false library old = sym (append-nil old)
 
-pub trace-joined : (traced : Bool) (interfaces : List Interface) (phases : List Phase) (choices : List (List (List ℕ))) (old begun new : List ℕ) → begun ≡ old ++ (if traced then first_line else []) → new ≡ begun ++ traces_for traced interfaces phases choices → new ≡ old ++ trace_for traced interfaces phases choices
-trace-joined traced interfaces phases choices old begun new first rest =
-    rest ∙ ap (λ t. t ++ traces_for traced interfaces phases choices) first ∙ append_assoc old (if traced then first_line else []) (traces_for traced interfaces phases choices)
-    ∙ ap (λ t. old ++ t) (sym (trace-split traced interfaces phases choices))
+pub trace-joined : (traced : Bool) (library : Library) (phases : List Phase) (choices : List (List (List ℕ))) (old begun new : List ℕ) → begun ≡ old ++ (if traced then first_line else []) → new ≡ begun ++ traces_for traced library phases choices → new ≡ old ++ trace_for traced library phases choices
+trace-joined traced library phases choices old begun new first rest =
+    rest ∙ ap (λ t. t ++ traces_for traced library phases choices) first ∙ append_assoc old (if traced then first_line else []) (traces_for traced library phases choices)
+    ∙ ap (λ t. old ++ t) (sym (trace-split traced library phases choices))

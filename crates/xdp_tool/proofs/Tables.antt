@@ -6,7 +6,7 @@ use Rattle.std.proofs.lemmas.List.Sums.{fold-append}
 use Rattle.script_text.specs.Texts.{outcome_text}
 use Rattle.xdp_state.proofs.Counts.{count_after}
 use Rattle.xdp_state.specs.Sums.{Past}
-use Rattle.xdp_state.specs.declared.interface.Interface.{Interface}
+use Rattle.xdp_state.specs.declared.library.Library.{Library}
 use Rattle.xdp_tool.proofs.Due.{taken-front}
 use Rattle.xdp_tool.specs.Texts.{items_text, table_text}
 use Rattle.xdp_state.specs.Book.{AllTaken, Book, after, applied, empty}
@@ -71,13 +71,13 @@ items-step before changes items i d start sat due done place old new taken begin
     }
 
 -- the item at a place, with the table of the state at its count, in front of those behind it
-pub items-front : (interfaces : List Interface) (past : Past) (published : List Change) (items : List Item) (i : ℕ) (d : Item) (state : Book) → i < length items → state ≡ after (take (get_or items i d).count published) → items_text interfaces past published (drop i items) ≡ (outcome_text (get_or items i d).line (get_or items i d).outcome ++ table_text interfaces past state (get_or items i d).outcome) ++ items_text interfaces past published (drop (i + 1) items)
-items-front interfaces past published items i d state below shown =
+pub items-front : (library : Library) (past : Past) (published : List Change) (items : List Item) (i : ℕ) (d : Item) (state : Book) → i < length items → state ≡ after (take (get_or items i d).count published) → items_text library past published (drop i items) ≡ (outcome_text (get_or items i d).line (get_or items i d).outcome ++ table_text library past state (get_or items i d).table) ++ items_text library past published (drop (i + 1) items)
+items-front library past published items i d state below shown =
     let item = get_or items i d in
     let left : drop i items ≡ item ∷ drop (i + 1) items = drop_more items i d below in
-    ap (items_text interfaces past published) left
-    ∙ ap (λ b. (outcome_text item.line item.outcome ++ table_text interfaces past b item.outcome) ++ items_text interfaces past published (drop (i + 1) items)) (sym shown)
+    ap (items_text library past published) left
+    ∙ ap (λ b. (outcome_text item.line item.outcome ++ table_text library past b item.table) ++ items_text library past published (drop (i + 1) items)) (sym shown)
 
 -- behind the last item
-pub items-none : (interfaces : List Interface) (past : Past) (published : List Change) (items : List Item) (i : ℕ) → length items ≤ i → items_text interfaces past published (drop i items) ≡ []
-items-none interfaces past published items i all = ap (items_text interfaces past published) (drop_all i items all)
+pub items-none : (library : Library) (past : Past) (published : List Change) (items : List Item) (i : ℕ) → length items ≤ i → items_text library past published (drop i items) ≡ []
+items-none library past published items i all = ap (items_text library past published) (drop_all i items all)

@@ -4,7 +4,7 @@ use Rattle.std.specs.Prelude.{is_none}
 use Rattle.std.proofs.lemmas.Bool.{false≢true}
 use Rattle.std.specs.Result.{IsErr}
 use Rattle.script_text.specs.declared.what.Line.{Line}
-use Rattle.xdp_state.specs.declared.interface.Interface.{Interface}
+use Rattle.xdp_state.specs.declared.library.Library.{Library}
 use Rattle.xio.specs.Prefixes.{AppendsPrefix}
 use Rattle.xdp_tool.proofs.Running.{Steps}
 use Rattle.xdp_tool.proofs.Walking.{rising-low}
@@ -19,12 +19,12 @@ pub steps-of : (walk : Walk) (begun : Begun) (phase : Phase) (barrier : Option �
 steps-of walk begun phase barrier at = record { grown = rising-low _ phase.items _ at.rising; steady = at.steady }
 
 -- the plan, once a phase has ended
-pub plan-ended : (interfaces : List Interface) (plan done : List Phase) (first phase : Phase) (barrier : Option ℕ) (lines left : List Line) → plan ≡ done ++ phases_from interfaces first lines → phases_from interfaces first lines ≡ closed barrier phase ∷ phases_behind interfaces barrier phase left → plan ≡ done ++ closed barrier phase ∷ phases_behind interfaces barrier phase left
-plan-ended interfaces plan done first phase barrier lines left whole ended = whole ∙ ap (λ phases. done ++ phases) ended
+pub plan-ended : (library : Library) (plan done : List Phase) (first phase : Phase) (barrier : Option ℕ) (lines left : List Line) → plan ≡ done ++ phases_from library first lines → phases_from library first lines ≡ closed barrier phase ∷ phases_behind library barrier phase left → plan ≡ done ++ closed barrier phase ∷ phases_behind library barrier phase left
+plan-ended library plan done first phase barrier lines left whole ended = whole ∙ ap (λ phases. done ++ phases) ended
 
 -- a barrier opens the next one
-pub plan-next : (interfaces : List Interface) (plan done : List Phase) (phase : Phase) (line : ℕ) (left : List Line) → plan ≡ done ++ closed (Some line) phase ∷ phases_behind interfaces (Some line) phase left → plan ≡ (done ++ closed (Some line) phase ∷ []) ++ phases_from interfaces (next_of interfaces phase) left
-plan-next interfaces plan done phase line left whole = whole ∙ sym (append_assoc done (closed (Some line) phase ∷ []) (phases_from interfaces (next_of interfaces phase) left))
+pub plan-next : (library : Library) (plan done : List Phase) (phase : Phase) (line : ℕ) (left : List Line) → plan ≡ done ++ closed (Some line) phase ∷ phases_behind library (Some line) phase left → plan ≡ (done ++ closed (Some line) phase ∷ []) ++ phases_from library (next_of library phase) left
+plan-next library plan done phase line left whole = whole ∙ sym (append_assoc done (closed (Some line) phase ∷ []) (phases_from library (next_of library phase) left))
 
 -- a run that stops puts the front of a text
 pub puts-front : {A : Type 0} (result : Result A Stop) (old new text : List ℕ) → IsErr result → AppendsPrefix old new text → PutsText result old new text
@@ -48,10 +48,10 @@ pub some-of : (barrier : Option ℕ) → is_none barrier ≡ false → (line : �
 some-of None is = absurd cc
 some-of (Some line) is = (line, refl)
 
-pub plan-last : (interfaces : List Interface) (plan done : List Phase) (phase : Phase) (barrier : Option ℕ) (left : List Line) → is_none barrier ≡ true → plan ≡ done ++ closed barrier phase ∷ phases_behind interfaces barrier phase left → plan ≡ done ++ closed barrier phase ∷ []
-plan-last interfaces plan done phase None left is whole = whole
-plan-last interfaces plan done phase (Some line) left is whole = absurd cc
+pub plan-last : (library : Library) (plan done : List Phase) (phase : Phase) (barrier : Option ℕ) (left : List Line) → is_none barrier ≡ true → plan ≡ done ++ closed barrier phase ∷ phases_behind library barrier phase left → plan ≡ done ++ closed barrier phase ∷ []
+plan-last library plan done phase None left is whole = whole
+plan-last library plan done phase (Some line) left is whole = absurd cc
 
-pub plan-more : (interfaces : List Interface) (plan done : List Phase) (phase : Phase) (barrier : Option ℕ) (left : List Line) → is_none barrier ≡ false → plan ≡ done ++ closed barrier phase ∷ phases_behind interfaces barrier phase left → plan ≡ (done ++ closed barrier phase ∷ []) ++ phases_from interfaces (next_of interfaces phase) left
-plan-more interfaces plan done phase None left is whole = absurd cc
-plan-more interfaces plan done phase (Some line) left is whole = plan-next interfaces plan done phase line left whole
+pub plan-more : (library : Library) (plan done : List Phase) (phase : Phase) (barrier : Option ℕ) (left : List Line) → is_none barrier ≡ false → plan ≡ done ++ closed barrier phase ∷ phases_behind library barrier phase left → plan ≡ (done ++ closed barrier phase ∷ []) ++ phases_from library (next_of library phase) left
+plan-more library plan done phase None left is whole = absurd cc
+plan-more library plan done phase (Some line) left is whole = plan-next library plan done phase line left whole

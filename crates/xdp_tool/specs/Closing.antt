@@ -16,8 +16,8 @@ use Rattle.xdp_tool.specs.declared.shown.Shown.{Shown}
 pub record Shows (shown : Shown) (published : List Change) (past : Past) (carried : List (List Carried)) : Type 0 where
   pub rules : shown.book ≡ after published
   pub sums : shown.sums ≡ sums_of past carried
-  pub queues : map queue_of shown.queues ≡ queues_of shown.interfaces.now
-  pub processors : length past.by_processor ≡ length (queues_of shown.interfaces.now)
+  pub queues : map queue_of shown.queues ≡ queues_of shown.library.now.interfaces
+  pub processors : length past.by_processor ≡ length (queues_of shown.library.now.interfaces)
 
 -- these are the items and changes of the phase, behind the publications before it, and what was carried in it
 pub record IsClosed (closed : Closed) (begun : List Change) (phase : Phase) (carried : List (List Carried)) : Type 0 where

@@ -4,7 +4,7 @@ use Rattle.std.specs.Fmt.{decimal}
 use Rattle.xdp_tool.specs.declared.ending.Ending.{Ending}
 use Rattle.xdp_tool.specs.declared.ending.Ending.TheVariants.{Done, Usage, BadScript, Fault, OutOfMemory, Limit}
 use Rattle.xdp_tool.specs.declared.ending.LimitName.{LimitName}
-use Rattle.xdp_tool.specs.declared.ending.LimitName.TheVariants.{Script, Lines}
+use Rattle.xdp_tool.specs.declared.ending.LimitName.TheVariants.{Script, Lines, Objects, Object}
 
 abbrev pub status_of : Ending → ℕ
 status_of (Done refused) = if refused then 1 else 0
@@ -22,6 +22,8 @@ line_of _ = 0
 abbrev pub limit_text : LimitName → List ℕ
 limit_text Script = codes "xdptool: limit script 16777216\n"
 limit_text Lines = codes "xdptool: limit lines 65536\n"
+limit_text Objects = codes "xdptool: limit objects 16\n"
+limit_text Object = codes "xdptool: limit object 16777216\n"
 
 abbrev pub err_text : Ending → List ℕ
 err_text (Done refused) = []

@@ -3,6 +3,7 @@ pub mod Closing
 pub mod Ending
 pub mod Headline
 pub mod Named
+pub mod Objects
 pub mod Order
 pub mod Outcome
 pub mod PhaseEnd
@@ -13,6 +14,7 @@ pub mod Ran
 pub mod Run
 pub mod Runnable
 pub mod Sinks
+pub mod Table
 pub mod Touched
 pub mod Texts
 pub mod Trace

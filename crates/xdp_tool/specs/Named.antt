@@ -1,10 +1,9 @@
--- Names that were taken from the words, and a script that was read, against what is wanted.
+-- Names that were taken from the words, and what was read of them, against what is wanted.
 use Rattle.std.specs.Prelude.{◌≡◌, ℕ, List, Result, Ok, Err, Option, ⊤}
 use Rattle.std.specs.Borrow.{Bor}
 use Rattle.std.specs.Option.{option_map}
 use Rattle.command_line.specs.Names.{Names, names_of}
 use Rattle.command_line.specs.declared.names.FileNames.{FileNames}
-use Rattle.script_text.specs.declared.script.Script.{Script}
 use Rattle.xdp_tool.specs.declared.ending.Ending.{Ending}
 use Rattle.xdp_tool.specs.declared.ending.Ending.TheVariants.{Fault, OutOfMemory}
 
@@ -18,7 +17,7 @@ AreNames (Err OutOfMemory) wanted = ⊤
 AreNames (Err ending) wanted = wanted ≡ Err ending
 
 -- only a fault and want of memory are free
-abbrev pub Prepares : Result Script Ending → Result Script Ending → Type 0
-Prepares (Err Fault) wanted = ⊤
-Prepares (Err OutOfMemory) wanted = ⊤
-Prepares result wanted = wanted ≡ result
+abbrev pub Gives : {A : Type 0} → Result A Ending → Result A Ending → Type 0
+Gives (Err Fault) wanted = ⊤
+Gives (Err OutOfMemory) wanted = ⊤
+Gives result wanted = wanted ≡ result

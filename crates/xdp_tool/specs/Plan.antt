@@ -3,7 +3,6 @@ use Rattle.std.specs.Prelude.{ℕ, ◌+◌, ◌*◌, Bool, true, false, List, []
 use Rattle.std.specs.List.{list_any}
 use Rattle.script_text.specs.declared.outcome.Outcome.{Outcome}
 use Rattle.script_text.specs.declared.outcome.Outcome.TheVariants as outcome
-use Rattle.script_text.specs.declared.script.Script.{Script}
 use Rattle.script_text.specs.declared.what.Line.{Line}
 use Rattle.script_text.specs.declared.what.What.{What}
 use Rattle.script_text.specs.declared.what.What.TheVariants as what
@@ -11,12 +10,15 @@ use Rattle.xdp_state.specs.Answer.{answer}
 use Rattle.xdp_state.specs.Book.{after}
 use Rattle.xdp_state.specs.Work.{Work}
 use Rattle.xdp_state.specs.declared.change.Change.{Change}
-use Rattle.xdp_state.specs.declared.interface.Interface.{Interface}
+use Rattle.xdp_state.specs.declared.library.Library.{Library}
 use Rattle.xdp_state.specs.declared.judgement.Judgement.{Judgement}
 use Rattle.xdp_state.specs.declared.judgement.Judgement.TheVariants.{Accepted, Shown, Refused}
 use Rattle.xdp_state.specs.declared.packet.HandIn.{HandIn}
 use Rattle.xdp_tool.specs.Queues.{queues_of}
+use Rattle.xdp_tool.specs.Table.{table_of}
 use Rattle.xdp_tool.specs.declared.item.Item.{Item}
+use Rattle.xdp_tool.specs.declared.prepared.Prepared.{Prepared}
+use Rattle.xdp_tool.specs.declared.table.Table.{Table}
 
 -- The part of a script up to a barrier, or up to the script's end.
 pub record Phase : Type 0 where
@@ -38,20 +40,20 @@ opened processors published packets = record {
   barrier = None;
 }
 
-abbrev pub with_item : ℕ → Outcome → Phase → Phase
-with_item line outcome phase = record phase {
-  items = phase.items ++ record { line = line; outcome = outcome; count = length phase.work.published } ∷ [];
+abbrev pub with_item : ℕ → Outcome → Option Table → Phase → Phase
+with_item line outcome table phase = record phase {
+  items = phase.items ++ record { line = line; outcome = outcome; count = length phase.work.published; table = table } ∷ [];
 }
 
 abbrev pub with_change : Change → Phase → Phase
 with_change change phase = record phase { work = record phase.work { published = phase.work.published ++ change ∷ [] } }
 
 -- an accepted change is the next publication; a refused or shown command publishes nothing
-abbrev pub with_answer : ℕ → Judgement → Phase → Phase
-with_answer line (Accepted change) phase =
-    with_item line (outcome.Ok (length phase.work.published + 1)) (with_change change phase)
-with_answer line Shown phase = with_item line outcome.Shown phase
-with_answer line (Refused reason) phase = with_item line (outcome.Refused reason) phase
+abbrev pub with_answer : ℕ → Table → Judgement → Phase → Phase
+with_answer line table (Accepted change) phase =
+    with_item line (outcome.Ok (length phase.work.published + 1)) None (with_change change phase)
+with_answer line table Shown phase = with_item line outcome.Shown (Some table) phase
+with_answer line table (Refused reason) phase = with_item line (outcome.Refused reason) None phase
 
 -- one more packet of a processor
 abbrev pub handed_to : ℕ → HandIn → List (List HandIn) → List (List HandIn)
@@ -67,17 +69,17 @@ hand_in line frame phase = record {
 }
 
 abbrev pub with_packet : ℕ → ℕ → List ℕ → Phase → Phase
-with_packet line processor frame phase = record (with_item line (outcome.Handed 1) phase) {
+with_packet line processor frame phase = record (with_item line (outcome.Handed 1) None phase) {
   work = record phase.work { hand_ins = handed_to processor (hand_in line frame phase) phase.work.hand_ins };
   packets = phase.packets + 1;
 }
 
 -- the phase under way with one more line, which is no barrier
-abbrev pub with_what : List Interface → ℕ → What → Phase → Phase
-with_what interfaces line (what.Command command) phase =
-    with_answer line (answer interfaces (after phase.work.published) command) phase
-with_what interfaces line (what.Packet processor frame) phase = with_packet line processor frame phase
-with_what interfaces line what.Barrier phase = phase
+abbrev pub with_what : Library → ℕ → What → Phase → Phase
+with_what library line (what.Command command) phase =
+    with_answer line (table_of library command) (answer library (after phase.work.published) command) phase
+with_what library line (what.Packet processor frame) phase = with_packet line processor frame phase
+with_what library line what.Barrier phase = phase
 
 abbrev pub is_barrier : What → Bool
 is_barrier what.Barrier = true
@@ -87,18 +89,18 @@ is_barrier _ = false
 abbrev pub closed : Option ℕ → Phase → Phase
 closed barrier phase = record phase { barrier = barrier }
 
-abbrev pub next_of : List Interface → Phase → Phase
-next_of interfaces phase = opened (length (queues_of interfaces)) phase.work.published phase.packets
+abbrev pub next_of : Library → Phase → Phase
+next_of library phase = opened (length (queues_of library.interfaces)) phase.work.published phase.packets
 
 -- the phases from the one under way on, by the lines that are left
-abbrev pub phases_from : List Interface → Phase → List Line → List Phase
-phases_from interfaces phase [] = phase ∷ []
-phases_from interfaces phase (line ∷ lines) =
-    if is_barrier line.what then closed (Some line.line) phase ∷ phases_from interfaces (next_of interfaces phase) lines
-    else phases_from interfaces (with_what interfaces line.line line.what phase) lines
+abbrev pub phases_from : Library → Phase → List Line → List Phase
+phases_from library phase [] = phase ∷ []
+phases_from library phase (line ∷ lines) =
+    if is_barrier line.what then closed (Some line.line) phase ∷ phases_from library (next_of library phase) lines
+    else phases_from library (with_what library line.line line.what phase) lines
 
-abbrev pub plan : Script → List Phase
-plan script = phases_from script.interfaces (opened (length (queues_of script.interfaces)) [] 0) script.lines
+abbrev pub plan : Prepared → List Phase
+plan script = phases_from script.library (opened (length (queues_of script.library.interfaces)) [] 0) script.lines
 
 abbrev pub works_of : List Phase → List Work
 works_of phases = map (λ phase. phase.work) phases

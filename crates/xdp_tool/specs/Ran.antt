@@ -3,10 +3,12 @@ use Rattle.std.specs.Prelude.{◌≡◌, ℕ, ◌≤◌, List, ◌∷◌, [], le
 use Rattle.script_text.specs.declared.what.Line.{Line}
 use Rattle.xdp_state.specs.Book.{after}
 use Rattle.xdp_state.specs.Sums.{Past, past_with}
-use Rattle.xdp_state.specs.Traversals.{Standing, carried_in}
+use Rattle.xdp_state.specs.Standing.{Standing}
+use Rattle.xdp_state.specs.Traversals.{carried_in}
 use Rattle.xdp_state.specs.Work.{all_needs}
 use Rattle.xdp_state.specs.declared.carried.Carried.{Carried}
 use Rattle.xdp_state.specs.declared.change.Change.{Change}
+use Rattle.xdp_state.specs.declared.library.Library.{Library}
 use Rattle.xdp_tool.specs.Carrying.{StandsAt}
 use Rattle.xdp_tool.specs.Closing.{Shows}
 use Rattle.xdp_tool.specs.Plan.{Phase, closed, phases_from}
@@ -21,8 +23,8 @@ pub record IsUnderWay (run : Run) (begun : Begun) (standings : List Standing) (p
   pub at : IsAt run.walk begun phase
   pub state : run.state ≡ after phase.work.published
   pub carrier : StandsAt run.carrier begun.published standings
-  pub standing : length standings ≡ length (queues_of run.walk.script.now.interfaces)
-  pub interfaces : run.shown.interfaces.now ≡ run.walk.script.now.interfaces
+  pub standing : length standings ≡ length (queues_of run.walk.script.now.library.interfaces)
+  pub library : run.shown.library.now ≡ run.walk.script.now.library
   pub waiting : run.buffer ≡ []
 
 -- the rules after these publications, and the sums of all that was carried
@@ -55,10 +57,10 @@ pub record Ends (run : Run) (begun : Begun) (past : Past) (standings : List Stan
     (lines : List Line) : Type 0 where
   pub phase : Phase
   pub stands : Stands run begun past standings phase
-  pub phases : phases_from run.walk.script.now.interfaces first lines ≡ closed barrier phase
-      ∷ phases_behind run.walk.script.now.interfaces barrier phase (drop run.walk.next run.walk.script.now.lines)
+  pub phases : phases_from run.walk.script.now.library first lines ≡ closed barrier phase
+      ∷ phases_behind run.walk.script.now.library barrier phase (drop run.walk.next run.walk.script.now.lines)
 
 -- the packets of a phase, each carried with as many publications as there were at its hand-in
-abbrev pub at_hand_in : List Standing → Phase → List (List Carried)
-at_hand_in standings phase =
-    carried_in phase.work.published standings phase.work.hand_ins (all_needs phase.work.hand_ins)
+abbrev pub at_hand_in : Library → List Standing → Phase → List (List Carried)
+at_hand_in library standings phase =
+    carried_in library phase.work.published standings phase.work.hand_ins (all_needs phase.work.hand_ins)

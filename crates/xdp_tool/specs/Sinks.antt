@@ -5,7 +5,7 @@ use Rattle.xio.specs.Prefixes.{AppendsPrefix}
 use Rattle.xio.specs.Told.{Told}
 use Rattle.xdp_state.specs.Legal.{AreLegal}
 use Rattle.xdp_state.specs.Work.{plan_of}
-use Rattle.xdp_state.specs.declared.interface.Interface.{Interface}
+use Rattle.xdp_state.specs.declared.library.Library.{Library}
 use Rattle.xdp_tool.specs.Headline.{is_decided, is_end}
 use Rattle.xdp_tool.specs.Order.{AppendsWhole}
 use Rattle.xdp_tool.specs.Plan.{Phase, has_refusal, works_of}
@@ -56,10 +56,10 @@ pub record HasBegun (old new : Told) (name : List ℕ) : Type 0 where
   pub first : AppendsWhole [] (new.content name) first_line
 
 -- of some number of phases out has the texts whole, and the trace no more than the front of theirs
-abbrev pub IsOrdered : Bool → List Interface → List Phase → List (List (List ℕ)) → List ℕ → List ℕ → (List ℕ → Type 0) → Type 0
-IsOrdered traced interfaces phases choices old_out out IsFront =
-    (ended : ℕ) × AppendsWhole old_out out (out_for interfaces phases (take ended choices))
-    × IsFront (trace_for traced interfaces phases (take ended choices))
+abbrev pub IsOrdered : Bool → Library → List Phase → List (List (List ℕ)) → List ℕ → List ℕ → (List ℕ → Type 0) → Type 0
+IsOrdered traced library phases choices old_out out IsFront =
+    (ended : ℕ) × AppendsWhole old_out out (out_for library phases (take ended choices))
+    × IsFront (trace_for traced library phases (take ended choices))
 
 -- The choices are legal for the phases that they cover; at `Ok` they cover all, and it says whether a command was refused.
 pub record Performs (phases : List Phase) (choices : List (List (List ℕ))) (result : Result Bool Stop) : Type 0 where

@@ -1,9 +1,7 @@
 -- What a run asks of the files: what it reads, makes and changes.
-use Rattle.std.specs.Prelude.{◌≡◌, ℕ, Bool, true, not, nat_eq, List, [], ◌∷◌, ◌++◌, length, take, Option, Some, None, Result, OnOk}
+use Rattle.std.specs.Prelude.{◌≡◌, ℕ, ◌+◌, ◌<◌, Bool, true, not, nat_eq, List, [], ◌∷◌, ◌++◌, length, take, Option, Some, None, Result, OnOk, ⊤}
 use Rattle.std.specs.Cmp.Lexicographic.{pointwise}
 use Rattle.xio.specs.Told.{Told}
-use Rattle.xdp_tool.specs.declared.ending.Ending.{Ending}
-use Rattle.script_text.specs.declared.script.Script.{Script}
 
 abbrev pub AppendsNames : List (List ℕ) → List (List ℕ) → List (List ℕ) → Type 0
 AppendsNames old new names = (n : ℕ) × (new ≡ old ++ take n names)
@@ -25,14 +23,19 @@ pub record Touches (old new : Told) (names : List (List ℕ)) (wanted : Option (
   pub content : (name : List ℕ) → is_other wanted name ≡ true → new.content name ≡ old.content name
   pub flushed : (name : List ℕ) → is_other wanted name ≡ true → new.flushed name ≡ old.flushed name
 
--- the file was opened by one call and taken to its end
-pub record TakesWhole (old new : Told) (name : List ℕ) : Type 0 where
-  pub asked : new.asked ≡ old.asked ++ name ∷ []
-  pub whole : new.places (length old.asked) ≡ length (old.content name)
+-- by call, from the one of this number on: the files of these names were taken to their ends
+abbrev pub AreTaken : (List ℕ → List ℕ) → (ℕ → ℕ) → ℕ → List (List ℕ) → Type 0
+AreTaken content places call [] = ⊤
+AreTaken content places call (name ∷ names) = (places call ≡ length (content name)) × AreTaken content places (call + 1) names
+
+-- each of the files was opened by one call, in this order, and taken to its end
+pub record TakesWhole (old new : Told) (names : List (List ℕ)) : Type 0 where
+  pub asked : new.asked ≡ old.asked ++ names
+  pub whole : AreTaken old.content new.places (length old.asked) names
 
 -- the same, and no read failed
-pub record IsReadWhole {S : Type 0} (told : S → Told) (faults : S → ℕ) (old new : S) (name : List ℕ) : Type 0 where
-  pub taken : TakesWhole (told old) (told new) name
+pub record IsReadWhole {S : Type 0} (told : S → Told) (faults : S → ℕ) (old new : S) (names : List (List ℕ)) : Type 0 where
+  pub taken : TakesWhole (told old) (told new) names
   pub no_fault : faults new ≡ faults old
 
 -- no file was made, and none changed
@@ -41,11 +44,13 @@ pub record IsUnmade (old new : Told) : Type 0 where
   pub content : new.content ≡ old.content
   pub flushed : new.flushed ≡ old.flushed
 
--- nothing but this file was read, to its end where a script came of it, and none was made or changed
-pub record Reads (old new : Told) (name : List ℕ) (result : Result Script Ending) : Type 0 where
-  pub asked : AppendsNames old.asked new.asked (name ∷ [])
-  pub whole : OnOk result (TakesWhole old new name)
+-- nothing but these files was read, in this order, to their ends where something came of them, and none was made or changed
+pub record Reads {A E : Type 0} (old new : Told) (names : List (List ℕ)) (result : Result A E) : Type 0 where
+  pub asked : AppendsNames old.asked new.asked names
+  pub whole : OnOk result (TakesWhole old new names)
   pub unmade : IsUnmade old new
+  -- calls before these stay as they were
+  pub earlier : (call : ℕ) → call < length old.asked → new.places call ≡ old.places call
 
 -- no file was read; at most this one was made, by one call, and no other one changed
 pub record Makes (old new : Told) (wanted : Option (List ℕ)) : Type 0 where

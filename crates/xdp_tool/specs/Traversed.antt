@@ -25,7 +25,7 @@ traversed library phases choices = traversals library (standings_of (queues_of l
 
 -- out, and the trace where one is wanted, with and without its first line
 abbrev pub out_for : Library → List Phase → List (List (List ℕ)) → List ℕ
-out_for library phases choices = out_text library.interfaces phases (traversed library phases choices)
+out_for library phases choices = out_text library phases (traversed library phases choices)
 
 abbrev pub trace_for : Bool → Library → List Phase → List (List (List ℕ)) → List ℕ
 trace_for traced library phases choices = trace_if traced phases (traversed library phases choices)

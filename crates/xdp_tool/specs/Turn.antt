@@ -5,7 +5,7 @@ use Rattle.script_text.specs.declared.what.What.{What}
 use Rattle.script_text.specs.declared.what.What.TheVariants as what
 use Rattle.xdp_state.specs.Answer.{answer}
 use Rattle.xdp_state.specs.Book.{after}
-use Rattle.xdp_state.specs.declared.interface.Interface.{Interface}
+use Rattle.xdp_state.specs.declared.library.Library.{Library}
 use Rattle.xdp_state.specs.declared.judgement.Judgement.{Judgement}
 use Rattle.xdp_state.specs.declared.judgement.Judgement.TheVariants.{Accepted, Shown, Refused}
 use Rattle.xdp_tool.specs.Plan.{Phase, with_what}
@@ -18,16 +18,16 @@ answered (Accepted change) = Publish change
 answered Shown = Again
 answered (Refused reason) = Again
 
-abbrev pub asked : List Interface → Phase → ℕ → What → Turn
-asked interfaces phase line (what.Command command) = answered (answer interfaces (after phase.work.published) command)
-asked interfaces phase line (what.Packet processor frame) = HandIn processor
-asked interfaces phase line what.Barrier = End (Some line)
+abbrev pub asked : Library → Phase → ℕ → What → Turn
+asked library phase line (what.Command command) = answered (answer library (after phase.work.published) command)
+asked library phase line (what.Packet processor frame) = HandIn processor
+asked library phase line what.Barrier = End (Some line)
 
 -- by the lines that are left: the turn, and the phase after it
-abbrev pub turn_of : List Interface → Phase → List Line → Turn
-turn_of interfaces phase [] = End None
-turn_of interfaces phase (line ∷ lines) = asked interfaces phase line.line line.what
+abbrev pub turn_of : Library → Phase → List Line → Turn
+turn_of library phase [] = End None
+turn_of library phase (line ∷ lines) = asked library phase line.line line.what
 
-abbrev pub phase_after : List Interface → Phase → List Line → Phase
-phase_after interfaces phase [] = phase
-phase_after interfaces phase (line ∷ lines) = with_what interfaces line.line line.what phase
+abbrev pub phase_after : Library → Phase → List Line → Phase
+phase_after library phase [] = phase
+phase_after library phase (line ∷ lines) = with_what library line.line line.what phase

@@ -6,7 +6,7 @@ use Rattle.xdp_state.specs.Book.{AllTaken}
 use Rattle.xdp_state.specs.Legal.{AreLegalCounts}
 use Rattle.xdp_state.specs.Work.{needs_of}
 use Rattle.xdp_state.specs.declared.change.Change.{Change}
-use Rattle.xdp_state.specs.declared.interface.Interface.{Interface}
+use Rattle.xdp_state.specs.declared.library.Library.{Library}
 use Rattle.xdp_state.specs.declared.packet.HandIn.{HandIn}
 use Rattle.xdp_tool.specs.Plan.{Phase, is_refused, next_of, phases_from}
 use Rattle.xdp_tool.specs.Queues.{queues_of}
@@ -39,7 +39,7 @@ pub record IsAt (walk : Walk) (begun : Begun) (phase : Phase) : Type 0 where
   pub taken : AllTaken phase.work.published
   pub rising : AreRising (length begun.published) phase.items (length phase.work.published)
   pub steady : AreSteady (length begun.published) (length phase.work.published) phase.work.hand_ins
-  pub processors : length phase.work.hand_ins ≡ length (queues_of walk.script.now.interfaces)
+  pub processors : length phase.work.hand_ins ≡ length (queues_of walk.script.now.library.interfaces)
   pub open_still : phase.barrier ≡ None
 
 -- a turn gives what is asked, and the walk is at the next phase; where memory is wanting it is where it was
@@ -57,6 +57,6 @@ begun_after begun phase = record {
 }
 
 -- the phases behind one that a barrier or the script's end has ended
-abbrev pub phases_behind : List Interface → Option ℕ → Phase → List Line → List Phase
-phases_behind interfaces (Some line) phase lines = phases_from interfaces (next_of interfaces phase) lines
-phases_behind interfaces None phase lines = []
+abbrev pub phases_behind : Library → Option ℕ → Phase → List Line → List Phase
+phases_behind library (Some line) phase lines = phases_from library (next_of library phase) lines
+phases_behind library None phase lines = []

@@ -49,10 +49,24 @@ impl Carrier {
             → AllTaken (before ++ changes.now) → AreDue (length before) (length (before ++ changes.now)) standings hand_ins.now counts.now
             → IfOk result (λ carried. Carries library.now self.new carried (before ++ changes.now) standings hand_ins.now counts.now) }
     {
-        carry_due(alloc, &self.state, library, &mut self.processors, hand_ins, counts)?;
+        carry_due(
+            alloc,
+            &self.state,
+            library,
+            &mut self.processors,
+            hand_ins,
+            counts,
+        )?;
         for change in changes {
             self.state.absorb(change);
-            carry_due(alloc, &self.state, library, &mut self.processors, hand_ins, counts)?;
+            carry_due(
+                alloc,
+                &self.state,
+                library,
+                &mut self.processors,
+                hand_ins,
+                counts,
+            )?;
         }
         finish_all(alloc, &mut self.processors)
     }
@@ -113,7 +127,14 @@ fn carry_due_at(
         return Ok(());
     }
     let (hand_ins, counts) = (hand_ins[place].as_slice(), counts[place].as_slice());
-    carry_due_on(alloc, state, library, &mut processors[place], hand_ins, counts)
+    carry_due_on(
+        alloc,
+        state,
+        library,
+        &mut processors[place],
+        hand_ins,
+        counts,
+    )
 }
 
 /// Carries the processor's next packets whose count is the state's.

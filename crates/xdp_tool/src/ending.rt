@@ -14,6 +14,10 @@ pub enum LimitName {
     Script,
     /// 65,536 lines of a script
     Lines,
+    /// 16 objects of a script
+    Objects,
+    /// 16,777,216 bytes of an object
+    Object,
 }
 
 /// How a run ends.
@@ -73,6 +77,8 @@ impl Ending {
             Ending::OutOfMemory => text.append(b"xdptool: out of memory\n")?,
             Ending::Limit(LimitName::Script) => text.append(b"xdptool: limit script 16777216\n")?,
             Ending::Limit(LimitName::Lines) => text.append(b"xdptool: limit lines 65536\n")?,
+            Ending::Limit(LimitName::Objects) => text.append(b"xdptool: limit objects 16\n")?,
+            Ending::Limit(LimitName::Object) => text.append(b"xdptool: limit object 16777216\n")?,
         }
         Ok(text)
     }

@@ -2,8 +2,10 @@ ghost use Rattle.std.specs.Prelude.{◌≡◌, ◌≢◌, ◌⊎◌, ◌≤◌, 
 ghost use Rattle.xio.specs.Causes.{Rose};
 ghost use Rattle.xio.specs.Prefixes.{AppendsPrefix};
 ghost use Rattle.xdp_state.specs.Legal.{AreLegal};
+ghost use Rattle.xdp_state.specs.Library.{IsSound};
+ghost use Rattle.xdp_state.specs.Standing.{Standing};
 ghost use Rattle.xdp_state.specs.Sums.{Past, past_with};
-ghost use Rattle.xdp_state.specs.Traversals.{Standing, standings_in};
+ghost use Rattle.xdp_state.specs.Traversals.{standings_in};
 ghost use Rattle.xdp_state.specs.Work.{all_needs, plan_of};
 ghost use Rattle.xdp_tool.specs.Order.{AppendsWhole};
 ghost use Rattle.xdp_tool.specs.PhaseEnd.{EndsText, EndsChoices, PutsText};
@@ -17,9 +19,9 @@ ghost use Rattle.xdp_tool.specs.Trace.{traced_text};
 ghost use Rattle.xdp_tool.specs.Traversed.{out_for, trace_for, traces_for};
 ghost use Rattle.xdp_tool.specs.Walked.{Begun, begun_after};
 
+use crate::prepared::Prepared;
 use crate::run::Run;
 use crate::write::write_phase;
-use script_text::Script;
 use std::alloc::Global;
 use xdp_state::Choices;
 use xio::{Sink, write_all};
@@ -36,7 +38,7 @@ pub enum Stop {
 /// script ran to its end.
 pub fn perform<O: Sink, T: Sink>(
     alloc: Global,
-    script: &Script,
+    script: &Prepared,
     traced: bool,
     out: &mut O,
     trace: &mut T,
@@ -46,13 +48,13 @@ pub fn perform<O: Sink, T: Sink>(
     requires script { IsRunnable script.now }
     ensures performed { Performs (plan script.now) choices.new result }
     ensures out { IsTrue O.tells → FillsSink O.held O.flushed out.old out.new
-        (out_for script.now.interfaces (plan script.now) choices.new) result }
+        (out_for script.now.library (plan script.now) choices.new) result }
     ensures settled { IsTrue O.tells → IsSettled O.held O.flushed O.faults out.old out.new }
     ensures trace { IsTrue T.tells → FillsSink T.held T.flushed trace.old trace.new
-        (trace_for traced script.now.interfaces (plan script.now) choices.new) result }
+        (trace_for traced script.now.library (plan script.now) choices.new) result }
     ensures begun { IsTrue T.tells → AppendsWhole (T.held trace.old) (T.held trace.new) (if traced then first_line else [])
         ⊎ IsUnbegun O.tells (O.held out.old) (O.held out.new) choices.new }
-    ensures ordered { IsTrue O.tells → IsTrue T.tells → IsOrdered traced script.now.interfaces (plan script.now) choices.new
+    ensures ordered { IsTrue O.tells → IsTrue T.tells → IsOrdered traced script.now.library (plan script.now) choices.new
         (O.held out.old) (O.held out.new) (λ text. AppendsPrefix (T.held trace.old) (T.held trace.new) text) }
     ensures fault { result ≡ Err Stop.Fault → Rises O.faults out.old out.new ⊎ Rises T.faults trace.old trace.new }
     ensures same_out { KeepsSink O.faults O.setting out.old out.new }
@@ -69,7 +71,7 @@ pub fn perform<O: Sink, T: Sink>(
 /// As `perform`, without the flushes.
 fn work_traced<O: Sink, T: Sink>(
     alloc: Global,
-    script: &Script,
+    script: &Prepared,
     traced: bool,
     out: &mut O,
     trace: &mut T,
@@ -79,12 +81,12 @@ fn work_traced<O: Sink, T: Sink>(
     requires script { IsRunnable script.now }
     ensures performed { Performs (plan script.now) choices.new result }
     ensures out { IsTrue O.tells → PutsText result (O.held out.old) (O.held out.new)
-        (out_for script.now.interfaces (plan script.now) choices.new) }
+        (out_for script.now.library (plan script.now) choices.new) }
     ensures trace { IsTrue T.tells → PutsText result (T.held trace.old) (T.held trace.new)
-        (trace_for traced script.now.interfaces (plan script.now) choices.new) }
+        (trace_for traced script.now.library (plan script.now) choices.new) }
     ensures begun { IsTrue T.tells → AppendsWhole (T.held trace.old) (T.held trace.new) (if traced then first_line else [])
         ⊎ IsUnbegun O.tells (O.held out.old) (O.held out.new) choices.new }
-    ensures ordered { IsTrue O.tells → IsTrue T.tells → IsOrdered traced script.now.interfaces (plan script.now) choices.new
+    ensures ordered { IsTrue O.tells → IsTrue T.tells → IsOrdered traced script.now.library (plan script.now) choices.new
         (O.held out.old) (O.held out.new) (λ text. AppendsPrefix (T.held trace.old) (T.held trace.new) text) }
     ensures fault { result ≡ Err Stop.Fault → Rises O.faults out.old out.new ⊎ Rises T.faults trace.old trace.new }
     ensures same_out { KeepsSink O.faults O.setting out.old out.new }
@@ -112,7 +114,7 @@ fn start_trace<T: Sink>(traced: bool, trace: &mut T) -> Result<(), Stop>
 /// Works the lines in turn, and answers whether a command was refused.
 fn work<O: Sink, T: Sink>(
     alloc: Global,
-    script: &Script,
+    script: &Prepared,
     traced: bool,
     out: &mut O,
     trace: &mut T,
@@ -124,14 +126,14 @@ fn work<O: Sink, T: Sink>(
     ensures covered { OnOk result (length choices.new ≡ length (plan script.now)) }
     ensures refused { IfOk result (λ refused. refused ≡ has_refusal (plan script.now)) }
     ensures out { IsTrue O.tells → PutsText result (O.held out.old) (O.held out.new)
-        (out_for script.now.interfaces (plan script.now) choices.new) }
+        (out_for script.now.library (plan script.now) choices.new) }
     ensures trace { IsTrue T.tells → PutsText result (T.held trace.old) (T.held trace.new)
-        (traces_for traced script.now.interfaces (plan script.now) choices.new) }
+        (traces_for traced script.now.library (plan script.now) choices.new) }
     ensures ordered { IsTrue O.tells → IsTrue T.tells → (ended : ℕ)
         × AppendsWhole (O.held out.old) (O.held out.new)
-        (out_for script.now.interfaces (plan script.now) (take ended choices.new))
+        (out_for script.now.library (plan script.now) (take ended choices.new))
         × AppendsPrefix (T.held trace.old) (T.held trace.new)
-        (traces_for traced script.now.interfaces (plan script.now) (take ended choices.new)) }
+        (traces_for traced script.now.library (plan script.now) (take ended choices.new)) }
     ensures fault { result ≡ Err Stop.Fault
         → Rose (O.faults out.old) (O.faults out.new) ⊎ Rose (T.faults trace.old) (T.faults trace.new) }
     ensures out_later { O.faults out.old ≤ O.faults out.new }
@@ -166,22 +168,24 @@ fn end_phase<O: Sink, T: Sink>(
     choices: &mut Choices,
 ) -> Result<(), Stop>
     requires standing { IsStanding run.old }
+    requires interfaces { length run.old.walk.script.now.library.interfaces ≤ 8 }
+    requires sound { IsSound run.old.walk.script.now.library }
     ensures stands { (begun : Begun) (past : Past) (standings : List Standing) (phase : Phase)
         → Stands run.old begun past standings phase → OnOk result (Stands run.new (begun_after begun phase)
-        (past_with past (at_hand_in standings phase)) (standings_in phase.work.published standings phase.work.hand_ins
-        (all_needs phase.work.hand_ins)) (next_of run.old.walk.script.now.interfaces phase)) }
+        (past_with past (at_hand_in run.old.walk.script.now.library standings phase)) (standings_in run.old.walk.script.now.library phase.work.published standings phase.work.hand_ins
+        (all_needs phase.work.hand_ins)) (next_of run.old.walk.script.now.library phase)) }
     ensures choices { (begun : Begun) (past : Past) (standings : List Standing) (phase : Phase)
         → Stands run.old begun past standings phase
         → EndsChoices result choices.old choices.new (all_needs phase.work.hand_ins) }
     ensures out { IsTrue O.tells → (begun : Begun) (past : Past) (standings : List Standing) (phase : Phase)
         → Stands run.old begun past standings phase → EndsText result (O.held out.old) (O.held out.new)
-        (phase_text run.old.walk.script.now.interfaces (closed barrier phase) past (past_with past (at_hand_in standings phase))) }
+        (phase_text run.old.walk.script.now.library (closed barrier phase) past (past_with past (at_hand_in run.old.walk.script.now.library standings phase))) }
     ensures trace { IsTrue T.tells → (begun : Begun) (past : Past) (standings : List Standing) (phase : Phase)
         → Stands run.old begun past standings phase → EndsText result (T.held trace.old) (T.held trace.new)
-        (traced_text traced (length choices.old) barrier (at_hand_in standings phase)) }
+        (traced_text traced (length choices.old) barrier (at_hand_in run.old.walk.script.now.library standings phase)) }
     ensures ordered { IsTrue O.tells → IsTrue T.tells → (begun : Begun) (past : Past) (standings : List Standing) (phase : Phase)
         → Stands run.old begun past standings phase → (O.held out.new ≡ O.held out.old
-        ++ phase_text run.old.walk.script.now.interfaces (closed barrier phase) past (past_with past (at_hand_in standings phase)))
+        ++ phase_text run.old.walk.script.now.library (closed barrier phase) past (past_with past (at_hand_in run.old.walk.script.now.library standings phase)))
         ⊎ (T.held trace.new ≡ T.held trace.old) }
     ensures same_refused { run.new.walk.refused ≡ run.old.walk.refused }
     ensures same_next { run.new.walk.next ≡ run.old.walk.next }

@@ -1,4 +1,4 @@
-ghost use Rattle.std.specs.Prelude.{◌≡◌, List, ◌++◌, map, IfOk, OnOk};
+ghost use Rattle.std.specs.Prelude.{◌≡◌, ◌<◌, ◌≤◌, List, ◌++◌, All, length, map, IfOk, OnOk};
 ghost use Rattle.xdp_tool.specs.Queues.{queues_on, queues_of};
 ghost use Rattle.xdp_tool.specs.QueueView.{queue_of};
 
@@ -21,7 +21,9 @@ pub fn queues_of<'a>(
     alloc: Global,
     interfaces: &'a InterfaceList,
 ) -> Result<List<Queue<'a>>, OutOfMemory>
-    ensures { IfOk result (λ queues. map queue_of queues ≡ queues_of interfaces.now) }
+    requires { length interfaces.now ≤ 8 }
+    ensures queues { IfOk result (λ queues. map queue_of queues ≡ queues_of interfaces.now) }
+    ensures interfaces { IfOk result (λ queues. All (λ queue. queue.interface < 8) queues) }
 {
     let mut queues = List::new(alloc);
     for number in 0..interfaces.len() {
@@ -36,7 +38,9 @@ fn add_queues<'a>(
     number: u32,
     interface: &'a Interface,
 ) -> Result<(), OutOfMemory>
-    ensures { OnOk result (map queue_of queues.new ≡ map queue_of queues.old ++ queues_on number interface.now) }
+    requires { number < 8 }
+    ensures queues { OnOk result (map queue_of queues.new ≡ map queue_of queues.old ++ queues_on number interface.now) }
+    ensures interfaces { All (λ queue. queue.interface < 8) queues.old → OnOk result (All (λ queue. queue.interface < 8) queues.new) }
 {
     for queue in 0..interface.queues {
         queues.push(Queue {

@@ -1,6 +1,8 @@
-ghost use Rattle.std.specs.Prelude.{◌≡◌, ◌<◌, ◌++◌, ◌∷◌, List, [], length, drop, map, IfOk, OnOk, OnErr, IsSome};
-ghost use Rattle.xdp_state.specs.Traversals.{Standing, standings_in};
+ghost use Rattle.std.specs.Prelude.{◌≡◌, ◌<◌, ◌≤◌, ◌++◌, ◌∷◌, List, [], length, drop, map, IfOk, OnOk, OnErr, IsSome};
+ghost use Rattle.xdp_state.specs.Standing.{Standing};
+ghost use Rattle.xdp_state.specs.Traversals.{standings_in};
 ghost use Rattle.xdp_state.specs.Work.{all_needs};
+ghost use Rattle.xdp_state.specs.Library.{IsSound};
 ghost use Rattle.xdp_state.specs.Sums.{Past, no_past};
 ghost use Rattle.xdp_state.specs.declared.packet.HandIn.{HandIn};
 ghost use Rattle.xdp_tool.specs.Traversed.{standings_of};
@@ -12,12 +14,12 @@ ghost use Rattle.xdp_tool.specs.Walked.{Begun, IsAt, begun_after, no_begun};
 
 use crate::carrier::Carrier;
 use crate::closed::Closed;
+use crate::prepared::Prepared;
 use crate::queue::queues_of;
 use crate::shown::Shown;
 use crate::turn::Turn;
 use crate::walk::Walk;
 use lists::List;
-use script_text::Script;
 use std::alloc::Global;
 use xdp_state::{CarriedList, Choices, CountList, HandIn, HandInList, NeedsList, State, Sums};
 use xio::{OutOfMemory, PrintBuffer};
@@ -38,20 +40,21 @@ impl<'a> Run<'a> {
     ghost use Rattle.xdp_tool.specs.Ran.{Ends, HasRoom, IsUnderWay, Stands, at_hand_in};
 
     /// Before the first line.
-    pub fn new(alloc: Global, script: &'a Script) -> Result<Self, OutOfMemory>
-        ensures start { IfOk result (λ run. Stands run no_begun (no_past (length (queues_of script.now.interfaces)))
-            (standings_of (queues_of script.now.interfaces)) (opened (length (queues_of script.now.interfaces)) [] 0)) }
+    pub fn new(alloc: Global, script: &'a Prepared) -> Result<Self, OutOfMemory>
+        requires { length script.now.library.interfaces ≤ 8 }
+        ensures start { IfOk result (λ run. Stands run no_begun (no_past (length (queues_of script.now.library.interfaces)))
+            (standings_of (queues_of script.now.library.interfaces)) (opened (length (queues_of script.now.library.interfaces)) [] 0)) }
         ensures same { IfOk result (λ run. run.walk.script.now ≡ script.now) }
         ensures room { IfOk result (λ run. HasRoom run) }
         ensures next { IfOk result (λ run. run.walk.next ≡ 0) }
     {
-        let queues = queues_of(alloc, &script.interfaces)?;
+        let queues = queues_of(alloc, &script.library.interfaces)?;
         Ok(Run {
             walk: Walk::new(alloc, script, queues.len() as usize)?,
             state: State::new(alloc)?,
             carrier: Carrier::new(alloc, queues.as_slice())?,
             shown: Shown {
-                interfaces: &script.interfaces,
+                library: &script.library,
                 book: State::new(alloc)?,
                 sums: Sums::new(alloc, queues.len())?,
                 queues,
@@ -90,16 +93,17 @@ impl<'a> Run<'a> {
         barrier: Option<u32>,
         choices: &mut Choices,
     ) -> Result<Closed, OutOfMemory>
+        requires { IsSound self.old.walk.script.now.library }
         ensures closes { (begun : Begun) (past : Past) (standings : List Standing) (phase : Phase)
             → Stands self.old begun past standings phase
-            → IfOk result (λ done. IsClosed done begun.published (closed barrier phase) (at_hand_in standings phase)) }
+            → IfOk result (λ done. IsClosed done begun.published (closed barrier phase) (at_hand_in self.old.walk.script.now.library standings phase)) }
         ensures shows { (begun : Begun) (past : Past) (standings : List Standing) (phase : Phase)
             → Stands self.old begun past standings phase
-            → OnOk result (Shows self.new.shown begun.published past (at_hand_in standings phase)) }
+            → OnOk result (Shows self.new.shown begun.published past (at_hand_in self.old.walk.script.now.library standings phase)) }
         ensures walks { (begun : Begun) (past : Past) (standings : List Standing) (phase : Phase)
             → Stands self.old begun past standings phase → OnOk result (IsUnderWay self.new (begun_after begun phase)
-            (standings_in phase.work.published standings phase.work.hand_ins (all_needs phase.work.hand_ins))
-            (next_of self.old.walk.script.now.interfaces phase)) }
+            (standings_in self.old.walk.script.now.library phase.work.published standings phase.work.hand_ins (all_needs phase.work.hand_ins))
+            (next_of self.old.walk.script.now.library phase)) }
         ensures chosen { (begun : Begun) (past : Past) (standings : List Standing) (phase : Phase)
             → Stands self.old begun past standings phase
             → OnOk result (choices.new ≡ choices.old ++ all_needs phase.work.hand_ins ∷ []) }
@@ -132,14 +136,16 @@ fn carry(
     carrier: &mut Carrier,
     walk: &Walk<'_>,
 ) -> Result<(NeedsList, List<CarriedList>), OutOfMemory>
+    requires { IsSound walk.now.script.now.library }
     ensures { (begun : Begun) (standings : List Standing) (phase : Phase) → IsAt walk.now begun phase
         → StandsAt carrier.old begun.published standings → length standings ≡ length phase.work.hand_ins
-        → IfOk result (λ done. (done.0 ≡ all_needs phase.work.hand_ins) × Carries carrier.new done.1 phase.work.published
+        → IfOk result (λ done. (done.0 ≡ all_needs phase.work.hand_ins) × Carries walk.now.script.now.library carrier.new done.1 phase.work.published
         standings phase.work.hand_ins (all_needs phase.work.hand_ins)) }
 {
     let hand_ins = walk.hand_ins.as_slice();
     let counts = needs_of(alloc, hand_ins)?;
-    let carried = carrier.carry(alloc, walk.changes.as_slice(), hand_ins, &counts)?;
+    let library = &walk.script.library;
+    let carried = carrier.carry(alloc, library, walk.changes.as_slice(), hand_ins, &counts)?;
     Ok((counts, carried))
 }
 

@@ -1,4 +1,4 @@
-ghost use Rattle.std.specs.Prelude.{◌≡◌, ◌++◌, ℕ, List, length, fold, map, OnOk};
+ghost use Rattle.std.specs.Prelude.{◌≡◌, ◌≤◌, ◌++◌, ℕ, List, length, fold, map, OnOk};
 ghost use Rattle.script_text.specs.Texts.{outcome_text};
 ghost use Rattle.xdp_state.specs.Book.{AllTaken, after, applied};
 ghost use Rattle.xdp_state.specs.Sums.{Counted, Past, past_with, tally_of};
@@ -15,9 +15,12 @@ use crate::closed::Closed;
 use crate::item::Item;
 use crate::queue::Queue;
 use crate::shown::Shown;
+use crate::table::Table;
 use lists::List;
-use script_text::{Outcome, end_print, outcome_print, processor_print, rules_print};
-use xdp_state::{Change, InterfaceList, State, Sums, Tally};
+use script_text::{
+    Outcome, chain_print, chains_print, end_print, outcome_print, processor_print, rules_print,
+};
+use xdp_state::{Change, Library, State, Sums, Tally};
 use xio::Printer;
 
 /// Prints what came of the lines of a phase, and the sums up to its end. Afterwards the rules are those at its end.
@@ -26,10 +29,11 @@ pub fn phase_print<P: Printer>(
     shown: &mut Shown<'_>,
     closed: &Closed,
 ) -> Result<(), P::End>
+    requires interfaces { length shown.old.library.now.interfaces ≤ 8 }
     ensures prints { (begun : List Change) (phase : Phase) (past : Past) (carried : List (List Carried))
         → Shows shown.old begun past carried → IsClosed closed.now begun phase carried
         → Prints P.tells P.counts (P.state printer.old) (P.state printer.new)
-        (phase_text shown.old.interfaces.now phase past (past_with past carried)) result }
+        (phase_text shown.old.library.now phase past (past_with past carried)) result }
     ensures book { (begun : List Change) (phase : Phase) (past : Past) (carried : List (List Carried))
         → Shows shown.old begun past carried → IsClosed closed.now begun phase carried
         → OnOk result (shown.new.book ≡ after phase.work.published) }
@@ -37,7 +41,7 @@ pub fn phase_print<P: Printer>(
 {
     items_print(
         printer,
-        shown.interfaces,
+        shown.library,
         shown.sums.before(),
         &mut shown.book,
         &closed.changes,
@@ -51,16 +55,17 @@ pub fn phase_print<P: Printer>(
 /// rules of its moment, with these sums.
 fn items_print<P: Printer>(
     printer: &mut P,
-    interfaces: &InterfaceList,
+    library: &Library,
     sums: &Tally,
     state: &mut State,
     changes: &[Change],
     items: &[Item],
 ) -> Result<(), P::End>
+    requires interfaces { length library.now.interfaces ≤ 8 }
     ensures prints { (before : List Change) (past : Past) → state.old ≡ after before → sums.now ≡ tally_of past.all
         → AllTaken (before ++ changes.now) → AreRising (length before) items.now (length (before ++ changes.now))
         → Prints P.tells P.counts (P.state printer.old) (P.state printer.new)
-        (items_text interfaces.now past (before ++ changes.now) items.now) result }
+        (items_text library.now past (before ++ changes.now) items.now) result }
     ensures state { (before : List Change) → state.old ≡ after before → AllTaken (before ++ changes.now)
         → AreRising (length before) items.now (length (before ++ changes.now))
         → OnOk result (state.new ≡ after (before ++ changes.now)) }
@@ -72,7 +77,7 @@ fn items_print<P: Printer>(
         let place = due.max(done);
         absorb_all(state, &changes[done..place]);
         done = place;
-        item_print(printer, interfaces, sums, state, item)?;
+        item_print(printer, library, sums, state, item)?;
     }
     absorb_all(state, &changes[done..]);
     Ok(())
@@ -91,19 +96,37 @@ fn absorb_all(state: &mut State, changes: &[Change])
 #[tactic(auto, using(xio::proofs::PrintLemmas::printing))]
 fn item_print<P: Printer>(
     printer: &mut P,
-    interfaces: &InterfaceList,
+    library: &Library,
     sums: &Tally,
     state: &State,
     item: &Item,
 ) -> Result<(), P::End>
+    requires { length library.now.interfaces ≤ 8 }
     ensures { (past : Past) → sums.now ≡ tally_of past.all
         → Prints P.tells P.counts (P.state printer.old) (P.state printer.new)
-        (outcome_text item.now.line item.now.outcome ++ table_text interfaces.now past state.now item.now.outcome) result }
+        (outcome_text item.now.line item.now.outcome ++ table_text library.now past state.now item.now.table) result }
 {
     outcome_print(printer, item.line, &item.outcome)?;
-    match item.outcome {
-        Outcome::Shown => rules_print(printer, state, interfaces, sums),
-        _ => Ok(()),
+    table_print(printer, library, sums, state, item.table)
+}
+
+/// Prints a table of this state, where one is shown.
+fn table_print<P: Printer>(
+    printer: &mut P,
+    library: &Library,
+    sums: &Tally,
+    state: &State,
+    table: Option<Table>,
+) -> Result<(), P::End>
+    requires { length library.now.interfaces ≤ 8 }
+    ensures { (past : Past) → sums.now ≡ tally_of past.all
+        → Prints P.tells P.counts (P.state printer.old) (P.state printer.new) (table_text library.now past state.now table) result }
+{
+    match table {
+        Some(Table::Rules) => rules_print(printer, state, &library.interfaces, sums),
+        Some(Table::Chain { interface }) => chain_print(printer, state, library, interface),
+        Some(Table::Chains) => chains_print(printer, state, library),
+        None => Ok(()),
     }
 }
 

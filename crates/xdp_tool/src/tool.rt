@@ -1,9 +1,9 @@
-ghost use Rattle.std.specs.Prelude.{◌≡◌, ◌⊎◌, ◌++◌, true, false, [], length, IsTrue, IfSome, is_err, Err};
+ghost use Rattle.std.specs.Prelude.{◌≡◌, ◌⊎◌, ◌++◌, true, false, [], length, IsTrue, IfSome, is_err, Ok, Err, Result};
 ghost use Rattle.xio.specs.Prefixes.{AppendsPrefix, AppendsUnless};
 ghost use Rattle.xdp_tool.specs.Ending.{line_of, status_of};
-ghost use Rattle.xdp_tool.specs.Headline.{is_status, is_decided, is_end, is_whole, IsDecided, IsExplained, out_of, trace_of, said, names_by, script_by, asked_names, script_name, trace_name, made_name};
+ghost use Rattle.xdp_tool.specs.Headline.{is_status, is_decided, is_end, is_whole, IsDecided, IsExplained, IsPreparedBy, out_of, trace_of, said, names_by, script_by, asked_names, trace_name, made_name};
 ghost use Rattle.xdp_tool.specs.Named.{name_of};
-ghost use Rattle.xdp_tool.specs.Outcome.{Cut, Whole, ending_after, interfaces_of, phases_of};
+ghost use Rattle.xdp_tool.specs.Outcome.{Cut, Whole, ending_after, library_of, phases_of};
 ghost use Rattle.xdp_tool.specs.Plan.{plan};
 ghost use Rattle.xdp_tool.specs.Run.{ending_of};
 ghost use Rattle.xdp_tool.specs.Runnable.{IsRunnable};
@@ -16,10 +16,10 @@ use crate::ended::Ended;
 use crate::ending::Ending;
 use crate::perform::{Stop, perform};
 use crate::prepare::prepare;
+use crate::prepared::Prepared;
 use crate::tell::tell;
 use crate::traced::perform_into;
 use crate::words::names_in;
-use script_text::Script;
 use std::alloc::Global;
 use xdp_state::Choices;
 use xio::{Files, Sink, SteadySink};
@@ -36,46 +36,52 @@ pub fn run_tool<F: Files, O: Sink, E: Sink>(
     // Want of memory is free; any other status but that of a fault is a function of words and files.
     ensures known { is_status result.status ≡ true }
     ensures no_line { is_decided result.status ≡ false → result.line ≡ 0 }
-    ensures decided { IsTrue F.tells → is_decided result.status ≡ true
-        → IsDecided (script_by words.now (F.told files.old)) result.status result.line }
+    ensures decided { IsTrue F.tells → is_decided result.status ≡ true → (script : Result Prepared Ending)
+        → IsPreparedBy words.now (F.told files.old) script → IsDecided script result.status result.line }
     // A fault comes only where the files or out failed in this call, and before the first line only where a read did.
     ensures fault { result.status ≡ 3 → Rises F.read_faults files.old files.new
         ⊎ Rises F.write_faults files.old files.new ⊎ Rises O.faults out.old out.new }
     ensures early_fault { IsTrue F.tells → is_err (script_by words.now (F.told files.old)) ≡ true → result.status ≡ 3
         → Rises F.read_faults files.old files.new }
     // The choices are legal, and out and the trace are the fronts of their texts for them, each phase first in out.
-    ensures explained { IsTrue F.tells → let script = script_by words.now (F.told files.old) in (cut : Cut)
-        × IsExplained script result.status result.choices cut
+    ensures explained { IsTrue F.tells → (script : Result Prepared Ending) → IsPreparedBy words.now (F.told files.old) script
+        → (cut : Cut) × IsExplained script result.status result.choices cut
         × (IsTrue O.tells → AppendsPrefix (O.held out.old) (O.held out.new) (out_of script cut result.choices))
         × IfSome (trace_name (names_by words.now))
         (IsTracedUpTo (F.told files.old) (F.told files.new) (trace_of script cut result.choices)) }
-    ensures ordered { IsTrue F.tells → IsTrue O.tells → let script = script_by words.now (F.told files.old) in
-        IsOrdered true (interfaces_of script) (phases_of script Whole) result.choices (O.held out.old) (O.held out.new)
+    ensures ordered { IsTrue F.tells → IsTrue O.tells → (script : Result Prepared Ending)
+        → IsPreparedBy words.now (F.told files.old) script → IsOrdered true (library_of script) (phases_of script Whole) result.choices (O.held out.old) (O.held out.new)
         (λ text. IfSome (trace_name (names_by words.now)) (IsTracedUpTo (F.told files.old) (F.told files.new) text)) }
     // Out and the trace are whole where the script ran to its end, and flushed; out is flushed also where it didn't.
-    ensures whole { IsTrue F.tells → IsTrue O.tells → is_whole result.status ≡ true → O.held out.new
-        ≡ O.held out.old ++ out_of (script_by words.now (F.told files.old)) Whole result.choices }
-    ensures limit { IsTrue F.tells → IsTrue O.tells → result.status ≡ 5
+    ensures whole { IsTrue F.tells → IsTrue O.tells → is_whole result.status ≡ true → (script : Result Prepared Ending)
+        → IsPreparedBy words.now (F.told files.old) script
+        → O.held out.new ≡ O.held out.old ++ out_of script Whole result.choices }
+    ensures limit { IsTrue F.tells → IsTrue O.tells → result.status ≡ 5 → (script : Result Prepared Ending)
+        → IsPreparedBy words.now (F.told files.old) script
         → AppendsUnless (Rises F.write_faults files.old files.new ⊎ Rises O.faults out.old out.new) (O.held out.old)
-        (O.held out.new) (out_of (script_by words.now (F.told files.old)) Whole result.choices) }
+        (O.held out.new) (out_of script Whole result.choices) }
     ensures flushed { IsTrue O.tells → is_end result.status ≡ true → O.flushed out.new ≡ length (O.held out.new) }
     ensures settled { IsTrue O.tells → IsSettled O.held O.flushed O.faults out.old out.new }
-    ensures traced { IsTrue F.tells → is_end result.status ≡ true → IfSome (trace_name (names_by words.now))
-        (IsTraced (F.told files.new) (trace_of (script_by words.now (F.told files.old)) Whole result.choices)) }
-    // Nothing is made or printed before the script was read to its end, nor printed before the trace has its first line.
-    ensures read_first { IsTrue F.tells
-        → IsReadWhole F.told F.read_faults files.old files.new (script_name (names_by words.now))
+    ensures traced { IsTrue F.tells → is_end result.status ≡ true → (script : Result Prepared Ending)
+        → IsPreparedBy words.now (F.told files.old) script → IfSome (trace_name (names_by words.now))
+        (IsTraced (F.told files.new) (trace_of script Whole result.choices)) }
+    // Nothing is made or printed before the script and its objects were read to their ends, which then give what is run; nor is
+    // anything printed before the trace has its first line.
+    ensures read_first { IsTrue F.tells → (IsReadWhole F.told F.read_faults files.old files.new
+        (asked_names (names_by words.now) (F.told files.old).content)
+        × (script : Prepared) × IsPreparedBy words.now (F.told files.old) (Ok script))
         ⊎ (IsUnbegun O.tells (O.held out.old) (O.held out.new) result.choices × IsUnmade (F.told files.old) (F.told files.new)) }
     ensures begun { IsTrue F.tells → IfSome (trace_name (names_by words.now)) (λ name. HasBegun (F.told files.old)
         (F.told files.new) name ⊎ IsUnbegun O.tells (O.held out.old) (O.held out.new) result.choices) }
-    // Only the script's file is asked for, the trace's file is made once and no other one changed, and none stays open.
-    ensures touched { IsTrue F.tells → Touches (F.told files.old) (F.told files.new) (asked_names (names_by words.now))
+    // Only the files of the script and of its objects are asked for, the trace's file is made once and no other one changed, and none stays open.
+    ensures touched { IsTrue F.tells → Touches (F.told files.old) (F.told files.new)
+        (asked_names (names_by words.now) (F.told files.old).content)
         (made_name (names_by words.now) (script_by words.now (F.told files.old))) }
     ensures same_handles { F.handles files.new ≡ F.handles files.old }
     // Err has its text whole, or its front where err failed. What out and err are stays.
     ensures err_told { IsTrue E.tells → (is_decided result.status ≡ true → IsTrue F.tells)
-        → AppendsUnless (Rises E.faults err.old err.new) (E.held err.old) (E.held err.new)
-        (said (script_by words.now (F.told files.old)) result.status) }
+        → (script : Result Prepared Ending) → IsPreparedBy words.now (F.told files.old) script
+        → AppendsUnless (Rises E.faults err.old err.new) (E.held err.old) (E.held err.new) (said script result.status) }
     ensures same_out { O.setting out.new ≡ O.setting out.old }
     ensures same_err { E.setting err.new ≡ E.setting err.old }
 {
@@ -106,29 +112,33 @@ fn run<F: Files, O: Sink>(
     choices: &mut Choices,
 ) -> Ending
     requires none { choices.old ≡ [] }
-    ensures decided { IsTrue F.tells → is_decided (status_of result) ≡ true
-        → result ≡ ending_after (script_by words.now (F.told files.old)) }
+    ensures decided { IsTrue F.tells → is_decided (status_of result) ≡ true → (script : Result Prepared Ending)
+        → IsPreparedBy words.now (F.told files.old) script → result ≡ ending_after script }
     ensures fault { result ≡ Ending.Fault → Rises F.read_faults files.old files.new
         ⊎ Rises F.write_faults files.old files.new ⊎ Rises O.faults out.old out.new }
     ensures early_fault { IsTrue F.tells → is_err (script_by words.now (F.told files.old)) ≡ true → result ≡ Ending.Fault
         → Rises F.read_faults files.old files.new }
-    ensures explained { IsTrue F.tells
-        → IsExplained (script_by words.now (F.told files.old)) (status_of result) choices.new Whole }
-    ensures out { IsTrue F.tells → IsTrue O.tells → LeavesOut O.held out.old out.new
-        (out_of (script_by words.now (F.told files.old)) Whole choices.new) (status_of result) }
+    ensures explained { IsTrue F.tells → (script : Result Prepared Ending) → IsPreparedBy words.now (F.told files.old) script
+        → IsExplained script (status_of result) choices.new Whole }
+    ensures out { IsTrue F.tells → IsTrue O.tells → (script : Result Prepared Ending)
+        → IsPreparedBy words.now (F.told files.old) script → LeavesOut O.held out.old out.new
+        (out_of script Whole choices.new) (status_of result) }
     ensures flushed { IsTrue O.tells → is_end (status_of result) ≡ true → O.flushed out.new ≡ length (O.held out.new) }
     ensures settled { IsTrue O.tells → IsSettled O.held O.flushed O.faults out.old out.new }
-    ensures trace { IsTrue F.tells → IfSome (trace_name (names_by words.now)) (LeavesTrace (F.told files.old)
-        (F.told files.new) (trace_of (script_by words.now (F.told files.old)) Whole choices.new) (status_of result)) }
-    ensures ordered { IsTrue F.tells → IsTrue O.tells → let script = script_by words.now (F.told files.old) in
-        IsOrdered true (interfaces_of script) (phases_of script Whole) choices.new (O.held out.old) (O.held out.new)
+    ensures trace { IsTrue F.tells → (script : Result Prepared Ending) → IsPreparedBy words.now (F.told files.old) script
+        → IfSome (trace_name (names_by words.now)) (LeavesTrace (F.told files.old)
+        (F.told files.new) (trace_of script Whole choices.new) (status_of result)) }
+    ensures ordered { IsTrue F.tells → IsTrue O.tells → (script : Result Prepared Ending)
+        → IsPreparedBy words.now (F.told files.old) script → IsOrdered true (library_of script) (phases_of script Whole) choices.new (O.held out.old) (O.held out.new)
         (λ text. IfSome (trace_name (names_by words.now)) (IsTracedUpTo (F.told files.old) (F.told files.new) text)) }
-    ensures read_first { IsTrue F.tells
-        → IsReadWhole F.told F.read_faults files.old files.new (script_name (names_by words.now))
+    ensures read_first { IsTrue F.tells → (IsReadWhole F.told F.read_faults files.old files.new
+        (asked_names (names_by words.now) (F.told files.old).content)
+        × (script : Prepared) × IsPreparedBy words.now (F.told files.old) (Ok script))
         ⊎ (IsUnbegun O.tells (O.held out.old) (O.held out.new) choices.new × IsUnmade (F.told files.old) (F.told files.new)) }
     ensures begun { IsTrue F.tells → IfSome (trace_name (names_by words.now)) (λ name. HasBegun (F.told files.old)
         (F.told files.new) name ⊎ IsUnbegun O.tells (O.held out.old) (O.held out.new) choices.new) }
-    ensures touched { IsTrue F.tells → Touches (F.told files.old) (F.told files.new) (asked_names (names_by words.now))
+    ensures touched { IsTrue F.tells → Touches (F.told files.old) (F.told files.new)
+        (asked_names (names_by words.now) (F.told files.old).content)
         (made_name (names_by words.now) (script_by words.now (F.told files.old))) }
     ensures same_handles { F.handles files.new ≡ F.handles files.old }
     ensures same_out { KeepsSink O.faults O.setting out.old out.new }
@@ -140,7 +150,7 @@ fn run<F: Files, O: Sink>(
             return ending;
         }
     };
-    let script = match prepare(alloc, files, named.script) {
+    let script = match prepare(alloc, files, named.script, named.trace) {
         Ok(script) => script,
         Err(ending) => {
             flush_early(out);
@@ -153,7 +163,7 @@ fn run<F: Files, O: Sink>(
 /// Performs a script, with its trace in the named file where there is a name.
 fn work<F: Files, O: Sink>(
     alloc: Global,
-    script: &Script,
+    script: &Prepared,
     trace: Option<&str>,
     files: &mut F,
     out: &mut O,
@@ -163,13 +173,13 @@ fn work<F: Files, O: Sink>(
     requires script { IsRunnable script.now }
     ensures performed { Performs (plan script.now) choices.new result }
     ensures out { IsTrue O.tells → FillsSink O.held O.flushed out.old out.new
-        (out_for script.now.interfaces (plan script.now) choices.new) result }
+        (out_for script.now.library (plan script.now) choices.new) result }
     ensures settled { IsTrue O.tells → IsSettled O.held O.flushed O.faults out.old out.new }
     ensures trace { IsTrue F.tells → IfSome (name_of trace.entry) (FillsFile (F.told files.old) (F.told files.new)
-        (trace_for true script.now.interfaces (plan script.now) choices.new) result) }
+        (trace_for true script.now.library (plan script.now) choices.new) result) }
     ensures begun { IsTrue F.tells → IfSome (name_of trace.entry) (λ name. HasBegun (F.told files.old) (F.told files.new) name
         ⊎ IsUnbegun O.tells (O.held out.old) (O.held out.new) choices.new) }
-    ensures ordered { IsTrue F.tells → IsTrue O.tells → IsOrdered true script.now.interfaces (plan script.now) choices.new
+    ensures ordered { IsTrue F.tells → IsTrue O.tells → IsOrdered true script.now.library (plan script.now) choices.new
         (O.held out.old) (O.held out.new)
         (λ text. IfSome (name_of trace.entry) (IsTracedUpTo (F.told files.old) (F.told files.new) text)) }
     ensures makes { IsTrue F.tells → Makes (F.told files.old) (F.told files.new) (name_of trace.entry) }

@@ -7,8 +7,10 @@ ghost use Rattle.xdp_tool.specs.Plan.{handed_to};
 ghost use Rattle.xdp_tool.specs.Runnable.{IsRunnable};
 
 use crate::item::Item;
+use crate::prepared::Prepared;
+use crate::table::{Table, table_of};
 use crate::turn::Turn;
-use script_text::{Line, Outcome, Script, What};
+use script_text::{Line, Outcome, What};
 use std::alloc::Global;
 use xdp_state::{Change, Command, HandIn, HandInList, Judgement, Packet, Reason, State, judge};
 use xio::{Bytes, OutOfMemory};
@@ -17,7 +19,7 @@ use xio::{Bytes, OutOfMemory};
 /// changes that it publishes, and by processor the packets that it hands in.
 #[derive(Debug, Drop)]
 pub struct Walk<'a> {
-    pub script: &'a Script,
+    pub script: &'a Prepared,
     /// the place of the next line
     pub next: u32,
     pub items: Vec<Item>,
@@ -31,15 +33,18 @@ pub struct Walk<'a> {
 impl<'a> Walk<'a> {
     ghost use Rattle.xdp_state.specs.Answer.{answer, rule_fits};
     ghost use Rattle.xdp_state.specs.Book.{after, takes};
+    ghost use Rattle.xdp_state.specs.Library.{IsSound};
     ghost use Rattle.xdp_state.specs.declared.judgement.Judgement.TheVariants as judgement;
     ghost use Rattle.xdp_tool.specs.Plan.{Phase, opened, next_of, with_what, with_answer, with_packet};
     ghost use Rattle.xdp_tool.specs.Queues.{queues_of};
+    ghost use Rattle.xdp_tool.specs.Table.{table_of};
+    ghost use Rattle.xdp_tool.specs.declared.table.Table.{Table};
     ghost use Rattle.xdp_tool.specs.Turn.{answered, asked, turn_of, phase_after};
     ghost use Rattle.xdp_tool.specs.Walked.{Begun, Goes, IsAt, begun_after, no_begun};
 
     /// Before the first line, with so many processors.
-    pub fn new(alloc: Global, script: &'a Script, processors: usize) -> Result<Self, OutOfMemory>
-        requires { processors ≡ length (queues_of script.now.interfaces) }
+    pub fn new(alloc: Global, script: &'a Prepared, processors: usize) -> Result<Self, OutOfMemory>
+        requires { processors ≡ length (queues_of script.now.library.interfaces) }
         ensures start { IfOk result (λ walk. IsAt walk no_begun (opened processors [] 0)) }
         ensures same { IfOk result (λ walk. walk.script.now ≡ script.now) }
         ensures next { IfOk result (λ walk. walk.next ≡ 0) }
@@ -62,8 +67,8 @@ impl<'a> Walk<'a> {
         requires published { state.now.count ≤ self.old.next }
         requires packets { self.old.packets ≤ self.old.next }
         ensures goes { (begun : Begun) (phase : Phase) → IsAt self.old begun phase → state.now ≡ after phase.work.published
-            → Goes result (turn_of self.old.script.now.interfaces phase (drop self.old.next self.old.script.now.lines))
-            self.new begun phase (phase_after self.old.script.now.interfaces phase (drop self.old.next self.old.script.now.lines)) }
+            → Goes result (turn_of self.old.script.now.library phase (drop self.old.next self.old.script.now.lines))
+            self.new begun phase (phase_after self.old.script.now.library phase (drop self.old.next self.old.script.now.lines)) }
         ensures moves { IfOk result (λ turn. (turn ≡ Turn.End None) ⊎ (self.new.next ≡ self.old.next + 1)) }
         ensures stays { OnErr result (self.new.next ≡ self.old.next) }
         ensures later { self.old.next ≤ self.new.next }
@@ -83,12 +88,13 @@ impl<'a> Walk<'a> {
     fn step(&mut self, alloc: Global, state: &State, line: &Line) -> Result<Turn, OutOfMemory>
         requires frame { has_frame line.now ≡ true }
         requires flags { has_flags line.now ≡ true }
-        requires interfaces { length self.old.script.now.interfaces ≤ 8 }
+        requires interfaces { length self.old.script.now.library.interfaces ≤ 8 }
+        requires sound { IsSound self.old.script.now.library }
         requires room { state.now.count < 65536 }
         requires few { self.old.packets < 65536 }
         ensures goes { (begun : Begun) (phase : Phase) → IsAt self.old begun phase → state.now ≡ after phase.work.published
-            → Goes result (asked self.old.script.now.interfaces phase line.now.line line.now.what)
-            self.new begun phase (with_what self.old.script.now.interfaces line.now.line line.now.what phase) }
+            → Goes result (asked self.old.script.now.library phase line.now.line line.now.what)
+            self.new begun phase (with_what self.old.script.now.library line.now.line line.now.what phase) }
         ensures packets { self.new.packets ≤ self.old.packets + 1 }
         ensures same_next { self.new.next ≡ self.old.next }
         ensures same { self.new.script.now ≡ self.old.script.now }
@@ -108,17 +114,19 @@ impl<'a> Walk<'a> {
     fn answer(&mut self, state: &State, line: u32, command: &Command) -> Result<Turn, OutOfMemory>
         requires flags { rule_fits command.now ≡ true }
         requires room { state.now.count < 65536 }
-        requires interfaces { length self.old.script.now.interfaces ≤ 8 }
+        requires interfaces { length self.old.script.now.library.interfaces ≤ 8 }
+        requires sound { IsSound self.old.script.now.library }
         ensures goes { (begun : Begun) (phase : Phase) → IsAt self.old begun phase → state.now ≡ after phase.work.published
-            → Goes result (answered (answer self.old.script.now.interfaces (after phase.work.published) command.now))
-            self.new begun phase (with_answer line (answer self.old.script.now.interfaces (after phase.work.published) command.now) phase) }
+            → Goes result (answered (answer self.old.script.now.library (after phase.work.published) command.now))
+            self.new begun phase (with_answer line (table_of self.old.script.now.library command.now)
+            (answer self.old.script.now.library (after phase.work.published) command.now) phase) }
         ensures same_packets { self.new.packets ≡ self.old.packets }
         ensures same_next { self.new.next ≡ self.old.next }
         ensures same { self.new.script.now ≡ self.old.script.now }
     {
-        match judge(state, &self.script.interfaces, command) {
+        match judge(state, &self.script.library, command) {
             Judgement::Accepted(change) => self.accept(state, line, change),
-            Judgement::Shown => self.show(state, line),
+            Judgement::Shown => self.show(state, line, table_of(&self.script.library, command)),
             Judgement::Refused(reason) => self.refuse(state, line, reason),
         }
     }
@@ -127,8 +135,8 @@ impl<'a> Walk<'a> {
     fn accept(&mut self, state: &State, line: u32, change: Change) -> Result<Turn, OutOfMemory>
         requires taken { takes state.now change ≡ true }
         requires room { state.now.count < 65536 }
-        ensures goes { (begun : Begun) (phase : Phase) → IsAt self.old begun phase → state.now ≡ after phase.work.published
-            → Goes result (answered (judgement.Accepted change)) self.new begun phase (with_answer line (judgement.Accepted change) phase) }
+        ensures goes { (table : Table) (begun : Begun) (phase : Phase) → IsAt self.old begun phase → state.now ≡ after phase.work.published
+            → Goes result (answered (judgement.Accepted change)) self.new begun phase (with_answer line table (judgement.Accepted change) phase) }
         ensures same_packets { self.new.packets ≡ self.old.packets }
         ensures same_next { self.new.next ≡ self.old.next }
         ensures same { self.new.script.now ≡ self.old.script.now }
@@ -139,14 +147,15 @@ impl<'a> Walk<'a> {
             line,
             outcome: Outcome::Ok(count),
             count,
+            table: None,
         })?;
         self.changes.push_reserved(change);
         Ok(Turn::Publish(change))
     }
 
-    fn show(&mut self, state: &State, line: u32) -> Result<Turn, OutOfMemory>
+    fn show(&mut self, state: &State, line: u32, table: Table) -> Result<Turn, OutOfMemory>
         ensures goes { (begun : Begun) (phase : Phase) → IsAt self.old begun phase → state.now ≡ after phase.work.published
-            → Goes result (answered judgement.Shown) self.new begun phase (with_answer line judgement.Shown phase) }
+            → Goes result (answered judgement.Shown) self.new begun phase (with_answer line table judgement.Shown phase) }
         ensures same_packets { self.new.packets ≡ self.old.packets }
         ensures same_next { self.new.next ≡ self.old.next }
         ensures same { self.new.script.now ≡ self.old.script.now }
@@ -155,13 +164,14 @@ impl<'a> Walk<'a> {
             line,
             outcome: Outcome::Shown,
             count: state.count(),
+            table: Some(table),
         })?;
         Ok(Turn::Again)
     }
 
     fn refuse(&mut self, state: &State, line: u32, reason: Reason) -> Result<Turn, OutOfMemory>
-        ensures goes { (begun : Begun) (phase : Phase) → IsAt self.old begun phase → state.now ≡ after phase.work.published
-            → Goes result (answered (judgement.Refused reason)) self.new begun phase (with_answer line (judgement.Refused reason) phase) }
+        ensures goes { (table : Table) (begun : Begun) (phase : Phase) → IsAt self.old begun phase → state.now ≡ after phase.work.published
+            → Goes result (answered (judgement.Refused reason)) self.new begun phase (with_answer line table (judgement.Refused reason) phase) }
         ensures same_packets { self.new.packets ≡ self.old.packets }
         ensures same_next { self.new.next ≡ self.old.next }
         ensures same { self.new.script.now ≡ self.old.script.now }
@@ -170,6 +180,7 @@ impl<'a> Walk<'a> {
             line,
             outcome: Outcome::Refused(reason),
             count: state.count(),
+            table: None,
         })?;
         self.refused = true;
         Ok(Turn::Again)
@@ -203,6 +214,7 @@ impl<'a> Walk<'a> {
             line,
             outcome: Outcome::Handed { packets: 1 },
             count: state.count(),
+            table: None,
         });
         self.packets += 1;
         Ok(Turn::HandIn { processor })
@@ -211,7 +223,7 @@ impl<'a> Walk<'a> {
     /// Opens the next phase, and answers the items and the changes of the one that has ended.
     pub fn open_next(&mut self, alloc: Global) -> Result<(Vec<Item>, Vec<Change>), OutOfMemory>
         ensures opened { (begun : Begun) (phase : Phase) → IsAt self.old begun phase
-            → OnOk result (IsAt self.new (begun_after begun phase) (next_of self.old.script.now.interfaces phase)) }
+            → OnOk result (IsAt self.new (begun_after begun phase) (next_of self.old.script.now.library phase)) }
         ensures given { IfOk result (λ given. (given.0 ≡ self.old.items) × (given.1 ≡ self.old.changes)) }
         ensures same_packets { self.new.packets ≡ self.old.packets }
         ensures same_refused { self.new.refused ≡ self.old.refused }

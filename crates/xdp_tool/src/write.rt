@@ -1,4 +1,4 @@
-ghost use Rattle.std.specs.Prelude.{◌≡◌, ◌⊎◌, ◌≤◌, ◌++◌, List, [], if◌then◌else◌, IsTrue, OnOk, OnErr};
+ghost use Rattle.std.specs.Prelude.{◌≡◌, ◌⊎◌, ◌≤◌, ◌++◌, List, [], length, if◌then◌else◌, IsTrue, OnOk, OnErr};
 ghost use Rattle.xdp_state.specs.Book.{after};
 ghost use Rattle.xdp_state.specs.Sums.{Past, past_with};
 ghost use Rattle.xdp_state.specs.declared.carried.Carried.{Carried};
@@ -28,14 +28,15 @@ pub fn write_phase<O: Sink, T: Sink>(
 ) -> Result<(), Failed>
     requires waiting { buffer.old ≡ [] }
     requires ready { IsReady shown.old closed.now }
+    requires interfaces { length shown.old.library.now.interfaces ≤ 8 }
     ensures out { IsTrue O.tells → (begun : List Change) (phase : Phase) (past : Past) (carried : List (List Carried))
         → Shows shown.old begun past carried → IsClosed closed.now begun phase carried
-        → PutsText result (O.held out.old) (O.held out.new) (phase_text shown.old.interfaces.now phase past (past_with past carried)) }
+        → PutsText result (O.held out.old) (O.held out.new) (phase_text shown.old.library.now phase past (past_with past carried)) }
     ensures trace { IsTrue T.tells → PutsText result (T.held trace.old) (T.held trace.new)
         (traced_text traced closed.now.number closed.now.barrier closed.now.carried) }
     ensures ordered { IsTrue O.tells → IsTrue T.tells → (begun : List Change) (phase : Phase) (past : Past) (carried : List (List Carried))
         → Shows shown.old begun past carried → IsClosed closed.now begun phase carried
-        → (O.held out.new ≡ O.held out.old ++ phase_text shown.old.interfaces.now phase past (past_with past carried))
+        → (O.held out.new ≡ O.held out.old ++ phase_text shown.old.library.now phase past (past_with past carried))
         ⊎ (T.held trace.new ≡ T.held trace.old) }
     ensures fault { OnErr result (Rose (O.faults out.old) (O.faults out.new) ⊎ Rose (T.faults trace.old) (T.faults trace.new)) }
     ensures out_later { O.faults out.old ≤ O.faults out.new }
@@ -61,9 +62,10 @@ fn write_out<O: Sink>(
 ) -> Result<(), Failed>
     requires waiting { buffer.old ≡ [] }
     requires ready { IsReady shown.old closed.now }
+    requires interfaces { length shown.old.library.now.interfaces ≤ 8 }
     ensures text { IsTrue O.tells → (begun : List Change) (phase : Phase) (past : Past) (carried : List (List Carried))
         → Shows shown.old begun past carried → IsClosed closed.now begun phase carried
-        → PutsText result (O.held out.old) (O.held out.new) (phase_text shown.old.interfaces.now phase past (past_with past carried)) }
+        → PutsText result (O.held out.old) (O.held out.new) (phase_text shown.old.library.now phase past (past_with past carried)) }
     ensures cause { HasCause (O.faults out.old) (O.faults out.new) result }
     ensures same_setting { O.setting out.new ≡ O.setting out.old }
     ensures waiting { OnOk result (buffer.new ≡ []) }

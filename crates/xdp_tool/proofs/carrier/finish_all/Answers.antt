@@ -17,7 +17,7 @@ loop-place-preserved c =
     let below : k < length ps = omega (arith, c.loop-place-test.true, c.len-place-end.ensures, inv.processors, c.loop-place.processors.ok, c.args.processors.now.ok) in
     record {
       carried = finish-step ps k c.index_mut.result.now c.finish.new.self _ _ _ c.finish.result below c.index_mut.ensures.value c.finish.ensures.carried c.in_ok-push.ensures.ok inv.carried;
-      idle = λ standings stands. rw add-one (idle-step k ps standings c.index_mut.result.now c.finish.new.self below c.index_mut.ensures.value c.finish.ensures.idle c.finish.ensures.interface (inv.idle standings stands));
+      idle = λ standings stands. rw add-one (idle-step k ps standings c.index_mut.result.now c.finish.new.self below c.index_mut.ensures.value c.finish.ensures.idle c.finish.ensures.standing (inv.idle standings stands));
       processors = inv.processors;
     }
 

@@ -1,5 +1,5 @@
 use Rattle.std.proofs.Common.{◌≡◌, ◌++◌, List, drop, map, vec_len}
-use Rattle.xdp_state.specs.Traversals.{Standing}
+use Rattle.xdp_state.specs.Standing.{Standing}
 use Rattle.xdp_tool.specs.Carrying.{AreIdleTo, AreStanding}
 use Rattle.xdp_tool.specs.declared.processor.Processor.{Processor}
 use Rattle.xdp_tool.proofs.carrier.finish_all.Given as goal

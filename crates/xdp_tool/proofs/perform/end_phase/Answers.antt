@@ -18,10 +18,15 @@ write_phase-requires-clause-ready g c =
       begun = s.begun.published;
       phase = closed c.args.barrier s.phase;
       past = s.past;
-      carried = at_hand_in s.standings s.phase;
+      carried = at_hand_in c.args.run.now.walk.script.now.library s.standings s.phase;
       shows = c.in-Ok.ensures.shows s.begun s.past s.standings s.phase s.stands;
       is = c.in-Ok.ensures.closes s.begun s.past s.standings s.phase s.stands;
     }
+
+pub write_phase-requires-clause-interfaces : goal.write_phase-requires-clause-interfaces
+write_phase-requires-clause-interfaces g c =
+    let s = c.requires.standing in
+    rw ((c.in-Ok.ensures.walks s.begun s.past s.standings s.phase s.stands).library, c.close.ensures.same) c.requires.interfaces
 
 pub returns-in-Ok-write_phase-clause-stands : goal.returns-in-Ok-write_phase-clause-stands
 returns-in-Ok-write_phase-clause-stands g c = λ begun past standings phase stands.
@@ -35,17 +40,17 @@ returns-in-Ok-write_phase-clause-stands g c = λ begun past standings phase stan
         state = walks.state;
         carrier = walks.carrier;
         standing = walks.standing;
-        interfaces = ap (λ (s : Shown). s.interfaces.now) same ∙ walks.interfaces;
+        library = ap (λ (s : Shown). s.library.now) same ∙ walks.library;
         waiting = c.in-Ok-write_phase.ensures.waiting;
       };
       rests = record {
         earlier = past;
-        carried = at_hand_in standings phase;
+        carried = at_hand_in c.args.run.now.walk.script.now.library standings phase;
         shows = record {
-          rules = c.in-Ok-write_phase.ensures.book begun.published (closed c.args.barrier phase) past (at_hand_in standings phase) shows is;
+          rules = c.in-Ok-write_phase.ensures.book begun.published (closed c.args.barrier phase) past (at_hand_in c.args.run.now.walk.script.now.library standings phase) shows is;
           sums = ap (λ (s : Shown). s.sums) same ∙ shows.sums;
-          queues = ap (λ (s : Shown). map queue_of s.queues) same ∙ (shows.queues ∙ sym (ap (λ (s : Shown). queues_of s.interfaces.now) same));
-          processors = shows.processors ∙ sym (ap (λ (s : Shown). length (queues_of s.interfaces.now)) same);
+          queues = ap (λ (s : Shown). map queue_of s.queues) same ∙ (shows.queues ∙ sym (ap (λ (s : Shown). queues_of s.library.now.interfaces) same));
+          processors = shows.processors ∙ sym (ap (λ (s : Shown). length (queues_of s.library.now.interfaces)) same);
         };
         counted = refl;
       };
@@ -56,7 +61,7 @@ returns-in-Ok-write_phase-clause-out g c = λ tells begun past standings phase s
     let walks = c.in-Ok.ensures.walks begun past standings phase stands in
     let shows = c.in-Ok.ensures.shows begun past standings phase stands in
     let is = c.in-Ok.ensures.closes begun past standings phase stands in
-    rw (walks.interfaces, c.close.ensures.same) at (c.in-Ok-write_phase.ensures.out tells begun.published (closed c.args.barrier phase) past (at_hand_in standings phase) shows is)
+    rw (walks.library, c.close.ensures.same) at (c.in-Ok-write_phase.ensures.out tells begun.published (closed c.args.barrier phase) past (at_hand_in c.args.run.now.walk.script.now.library standings phase) shows is)
 
 pub returns-in-Ok-write_phase-clause-trace : goal.returns-in-Ok-write_phase-clause-trace
 returns-in-Ok-write_phase-clause-trace g c = λ tells begun past standings phase stands.
@@ -69,14 +74,14 @@ returns-in-Ok-write_phase-clause-ordered g c = λ told tells begun past standing
     let walks = c.in-Ok.ensures.walks begun past standings phase stands in
     let shows = c.in-Ok.ensures.shows begun past standings phase stands in
     let is = c.in-Ok.ensures.closes begun past standings phase stands in
-    rw (walks.interfaces, c.close.ensures.same) at (c.in-Ok-write_phase.ensures.ordered told tells begun.published (closed c.args.barrier phase) past (at_hand_in standings phase) shows is)
+    rw (walks.library, c.close.ensures.same) at (c.in-Ok-write_phase.ensures.ordered told tells begun.published (closed c.args.barrier phase) past (at_hand_in c.args.run.now.walk.script.now.library standings phase) shows is)
 
 pub returns-clause-out : goal.returns-clause-out
 returns-clause-out g c = λ tells begun past standings phase stands.
     let walks = c.in-Ok.ensures.walks begun past standings phase stands in
     let shows = c.in-Ok.ensures.shows begun past standings phase stands in
     let is = c.in-Ok.ensures.closes begun past standings phase stands in
-    rw (walks.interfaces, c.close.ensures.same) at (c.in-Err-write_phase.ensures.out tells begun.published (closed c.args.barrier phase) past (at_hand_in standings phase) shows is)
+    rw (walks.library, c.close.ensures.same) at (c.in-Err-write_phase.ensures.out tells begun.published (closed c.args.barrier phase) past (at_hand_in c.args.run.now.walk.script.now.library standings phase) shows is)
 
 pub returns-clause-trace : goal.returns-clause-trace
 returns-clause-trace g c = λ tells begun past standings phase stands.
@@ -89,4 +94,4 @@ returns-clause-ordered g c = λ told tells begun past standings phase stands.
     let walks = c.in-Ok.ensures.walks begun past standings phase stands in
     let shows = c.in-Ok.ensures.shows begun past standings phase stands in
     let is = c.in-Ok.ensures.closes begun past standings phase stands in
-    rw (walks.interfaces, c.close.ensures.same) at (c.in-Err-write_phase.ensures.ordered told tells begun.published (closed c.args.barrier phase) past (at_hand_in standings phase) shows is)
+    rw (walks.library, c.close.ensures.same) at (c.in-Err-write_phase.ensures.ordered told tells begun.published (closed c.args.barrier phase) past (at_hand_in c.args.run.now.walk.script.now.library standings phase) shows is)

@@ -1,6 +1,6 @@
 use Rattle.std.proofs.Common.{◌≡◌, ◌≤◌, ◌-◌, ◌++◌, List, drop, length, IsTrue}
 use Rattle.xdp_state.specs.Sums.{Past}
-use Rattle.xdp_state.specs.Traversals.{Standing}
+use Rattle.xdp_state.specs.Standing.{Standing}
 use Rattle.xdp_tool.proofs.Running.{Ran}
 use Rattle.xdp_tool.specs.Plan.{Phase, phases_from, plan}
 use Rattle.xdp_tool.specs.Ran.{HasRoom, Stands}
@@ -15,14 +15,14 @@ invariant-phases g l = record {
   past : Past;
   standings : List Standing;
   phase : Phase;
-  ran : Ran l.script.interfaces done begun past standings l.choices;
+  ran : Ran l.script.library done begun past standings l.choices;
   stands : Stands l.run begun past standings phase;
-  plan_is : plan l.script ≡ done ++ phases_from l.script.interfaces phase (drop l.run.walk.next l.script.lines);
+  plan_is : plan l.script ≡ done ++ phases_from l.script.library phase (drop l.run.walk.next l.script.lines);
   same : l.run.walk.script.now ≡ l.script;
   room : HasRoom l.run;
-  out : IsTrue g.O.Sink.tells → g.O.Sink.held l.out ≡ g.O.Sink.held l.fn.out ++ out_for l.script.interfaces done l.choices;
+  out : IsTrue g.O.Sink.tells → g.O.Sink.held l.out ≡ g.O.Sink.held l.fn.out ++ out_for l.script.library done l.choices;
   trace : IsTrue g.T.Sink.tells
-      → g.T.Sink.held l.trace ≡ g.T.Sink.held l.fn.trace ++ traces_for l.traced l.script.interfaces done l.choices;
+      → g.T.Sink.held l.trace ≡ g.T.Sink.held l.fn.trace ++ traces_for l.traced l.script.library done l.choices;
   out_later : g.O.Sink.faults l.fn.out ≤ g.O.Sink.faults l.out;
   trace_later : g.T.Sink.faults l.fn.trace ≤ g.T.Sink.faults l.trace;
   same_out : g.O.Sink.setting l.out ≡ g.O.Sink.setting l.fn.out;

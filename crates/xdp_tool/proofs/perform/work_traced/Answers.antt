@@ -14,7 +14,7 @@ returns-in_err-start_trace-clause-out g c = λ tells.
 pub returns-in_err-start_trace-clause-trace : goal.returns-in_err-start_trace-clause-trace
 returns-in_err-start_trace-clause-trace g c = λ tells.
     puts-front c.from_residual.result _ _ _ c.from_residual.ensures.0
-    (rw (trace-split c.args.traced c.args.script.now.interfaces (plan c.args.script.now) c.args.choices.now)
+    (rw (trace-split c.args.traced c.args.script.now.library (plan c.args.script.now) c.args.choices.now)
     (prefix_of_front _ _ _ _ (c.in_err-start_trace.ensures.text tells)))
 
 pub returns-in_err-start_trace-clause-begun : goal.returns-in_err-start_trace-clause-begun
@@ -22,11 +22,11 @@ returns-in_err-start_trace-clause-begun g c = λ tells. inr (c.requires.none, λ
 
 pub returns-in_err-start_trace-clause-ordered : goal.returns-in_err-start_trace-clause-ordered
 returns-in_err-start_trace-clause-ordered g c = λ told tells.
-    unbegun-ordered c.args.traced c.args.script.now.interfaces (plan c.args.script.now) c.args.choices.now _ _ _ (c.in_err-start_trace.ensures.text tells)
+    unbegun-ordered c.args.traced c.args.script.now.library (plan c.args.script.now) c.args.choices.now _ _ _ (c.in_err-start_trace.ensures.text tells)
 
 pub returns-clause-trace : goal.returns-clause-trace
 returns-clause-trace g c = λ tells.
-    puts-joined c.args.traced c.args.script.now.interfaces (plan c.args.script.now) c.work.new.choices c.work.result _ _ _ (c.in_ok-start_trace.ensures.text tells) (c.work.ensures.trace tells)
+    puts-joined c.args.traced c.args.script.now.library (plan c.args.script.now) c.work.new.choices c.work.result _ _ _ (c.in_ok-start_trace.ensures.text tells) (c.work.ensures.trace tells)
 
 pub returns-clause-begun : goal.returns-clause-begun
 returns-clause-begun g c = λ tells.
@@ -34,4 +34,4 @@ returns-clause-begun g c = λ tells.
 
 pub returns-clause-ordered : goal.returns-clause-ordered
 returns-clause-ordered g c = λ told tells.
-    begun-ordered c.args.traced c.args.script.now.interfaces (plan c.args.script.now) c.work.new.choices _ _ _ _ _ (c.in_ok-start_trace.ensures.text tells) (c.work.ensures.ordered told tells)
+    begun-ordered c.args.traced c.args.script.now.library (plan c.args.script.now) c.work.new.choices _ _ _ _ _ (c.in_ok-start_trace.ensures.text tells) (c.work.ensures.ordered told tells)

@@ -9,5 +9,8 @@ loop-number-preserved c =
     let interfaces = c.args.interfaces.now in
     let n = c.loop-number.number in
     let here = c.at.ensures in
-    rw (queues_from-more interfaces n c.at.result.now (slice_get_within interfaces n _ here) (sym (get_or_from_slice_get interfaces n _ c.at.result.now here)))
-    (c.in_ok-add_queues.ensures ∙ ap (λ qs. qs ++ queues_on n c.at.result.now) c.loop-number.invariant)
+    record {
+      queues = rw (queues_from-more interfaces n c.at.result.now (slice_get_within interfaces n _ here) (sym (get_or_from_slice_get interfaces n _ c.at.result.now here)))
+          (c.in_ok-add_queues.ensures.queues ∙ ap (λ qs. qs ++ queues_on n c.at.result.now) c.loop-number.invariant.queues);
+      interfaces = c.in_ok-add_queues.ensures.interfaces c.loop-number.invariant.interfaces;
+    }

@@ -26,7 +26,7 @@ loop-item-preserved g c =
           let at = inv.state before state taken rising in
           let step = items-step before c.args.changes.now c.args.items.now i _ c.count-start.result c.saturating_sub.result c.min-due.result c.loop-item.done c.max-place.result c.loop-item.state c.absorb_all.new.state taken (c.count-start.ensures ∙ ap (λ b. b.count) state) (omega (arith, c.loop-item-test.true)) inv.within c.saturating_sub.ensures c.min-due.ensures c.max-place.ensures at.now at.rising c.absorb_all.ensures in
           printed_more _ _ (inv.text before past state sums taken rising)
-          (items-front c.args.interfaces.now past _ c.args.items.now i _ c.absorb_all.new.state (omega (arith, c.loop-item-test.true)) step.shown)
+          (items-front c.args.library.now past _ c.args.items.now i _ c.absorb_all.new.state (omega (arith, c.loop-item-test.true)) step.shown)
           (c.in_ok-item_print.ensures past sums);
     }
 
@@ -37,13 +37,13 @@ returns-in_err-item_print-clause-prints g c = λ before past state sums taken ri
     let at = inv.state before state taken rising in
     let step = items-step before c.args.changes.now c.args.items.now i _ c.count-start.result c.saturating_sub.result c.min-due.result c.loop-item.done c.max-place.result c.loop-item.state c.absorb_all.new.state taken (c.count-start.ensures ∙ ap (λ b. b.count) state) (omega (arith, c.loop-item-test.true)) inv.within c.saturating_sub.ensures c.min-due.ensures c.max-place.ensures at.now at.rising c.absorb_all.ensures in
     printed_stop _ _ c.from_residual.result c.from_residual.ensures.0 (inv.text before past state sums taken rising)
-    (items-front c.args.interfaces.now past _ c.args.items.now i _ c.absorb_all.new.state (omega (arith, c.loop-item-test.true)) step.shown)
+    (items-front c.args.library.now past _ c.args.items.now i _ c.absorb_all.new.state (omega (arith, c.loop-item-test.true)) step.shown)
     (c.in_err-item_print.ensures past sums)
 
 pub returns-clause-prints : goal.returns-clause-prints
 returns-clause-prints g c = λ before past state sums taken rising.
     printed_all (c.loop-item.invariant.text before past state sums taken rising)
-    (items-none c.args.interfaces.now past _ c.args.items.now c.loop-item.item-index (omega (arith, c.loop-item-test.false)))
+    (items-none c.args.library.now past _ c.args.items.now c.loop-item.item-index (omega (arith, c.loop-item-test.false)))
 
 pub returns-clause-state : goal.returns-clause-state
 returns-clause-state g c = λ before state taken rising.

@@ -18,5 +18,5 @@ invariant-loop-item g l = record {
   text : (before : List Change) (past : Past) → l.fn.state ≡ after before → l.sums ≡ tally_of past.all → AllTaken (before ++ l.changes)
       → AreRising (length before) l.items (length (before ++ l.changes))
       → HasPrinted g.P.Printer.tells g.P.Printer.counts (g.P.Printer.state l.fn.printer) (g.P.Printer.state l.printer)
-      (items_text l.interfaces past (before ++ l.changes) l.items) (items_text l.interfaces past (before ++ l.changes) (drop l.item-index l.items));
+      (items_text l.library past (before ++ l.changes) l.items) (items_text l.library past (before ++ l.changes) (drop l.item-index l.items));
 }

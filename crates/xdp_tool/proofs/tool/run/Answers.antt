@@ -1,38 +1,38 @@
 use Rattle.std.proofs.Common.{◌∙◌, inl, inr}
-use Rattle.xdp_tool.specs.Headline.{script_by}
 use Rattle.xdp_tool.specs.Named.{name_of}
-use Rattle.xdp_tool.specs.Outcome.{Whole, interfaces_of, phases_of}
-use Rattle.xdp_tool.proofs.OneTrace.{begun-all, begun-none, leaves-none, leaves-trace, taken-still, touches-both, touches-nothing, touches-read, traced-all, traced-none, unmade-still}
+use Rattle.xdp_tool.specs.Outcome.{Whole, library_of, phases_of}
+use Rattle.xdp_tool.proofs.FilesRead.{taken-still}
+use Rattle.xdp_tool.proofs.OneTrace.{begun-all, begun-none, leaves-none, leaves-trace, touches-both, touches-nothing, touches-read, touches-wanted, traced-all, traced-none, unmade-still}
 use Rattle.xdp_tool.proofs.Ordering.{none-whole}
 use Rattle.xdp_tool.proofs.Telling.{decided-by, decided-early, explained-by, explained-early, flushed-ended, leaves-early, leaves-out, words-early}
 use Rattle.xdp_tool.proofs.tool.run.Goals as goal
 
 pub returns-clause-decided : goal.returns-clause-decided
-returns-clause-decided g c = λ tells.
-    rw (c.in-Ok.ensures.names, c.in-Ok-prepare.ensures.script tells, c.ending_of.ensures)
-    (decided-by c.in-Ok-prepare.script c.work.new.choices c.work.result c.work.ensures.performed)
+returns-clause-decided g c = λ tells decided script is.
+    rw (c.in-Ok-prepare.ensures.only tells script (rw c.in-Ok.ensures.names at is), c.ending_of.ensures)
+    (decided-by c.in-Ok-prepare.script c.work.new.choices c.work.result c.work.ensures.performed (rw c.ending_of.ensures at decided))
 
 pub returns-clause-explained : goal.returns-clause-explained
-returns-clause-explained g c = λ tells.
-    rw (c.in-Ok.ensures.names, c.in-Ok-prepare.ensures.script tells, c.ending_of.ensures)
+returns-clause-explained g c = λ tells script is.
+    rw (c.in-Ok-prepare.ensures.only tells script (rw c.in-Ok.ensures.names at is), c.ending_of.ensures)
     (explained-by c.in-Ok-prepare.script c.work.new.choices c.work.result c.work.ensures.performed)
 
 pub returns-clause-out : goal.returns-clause-out
-returns-clause-out g c = λ tells told.
-    rw (c.in-Ok.ensures.names, c.in-Ok-prepare.ensures.script tells, c.ending_of.ensures)
+returns-clause-out g c = λ tells told script is.
+    rw (c.in-Ok-prepare.ensures.only tells script (rw c.in-Ok.ensures.names at is), c.ending_of.ensures)
     (leaves-out g.O.Sink.held g.O.Sink.flushed c.args.out.now c.work.new.out _ c.work.result (c.work.ensures.out told))
 
 pub returns-clause-flushed : goal.returns-clause-flushed
 returns-clause-flushed g c = λ told. rw c.ending_of.ensures (flushed-ended c.work.result (c.work.ensures.out told).all_flushed)
 
 pub returns-clause-trace : goal.returns-clause-trace
-returns-clause-trace g c = λ tells.
-    rw (c.in-Ok.ensures.names, c.in-Ok-prepare.ensures.script tells, c.ending_of.ensures)
+returns-clause-trace g c = λ tells script is.
+    rw (c.in-Ok-prepare.ensures.only tells script (rw c.in-Ok.ensures.names at is), c.in-Ok.ensures.names, c.ending_of.ensures)
     (leaves-trace (g.F.Files.told c.args.files.now) (g.F.Files.told c.prepare.new.files) (g.F.Files.told c.work.new.files) _ c.work.result (name_of c.in-Ok.named.trace) (c.prepare.ensures.reads tells).unmade (c.work.ensures.trace tells))
 
 pub returns-clause-ordered : goal.returns-clause-ordered
-returns-clause-ordered g c = λ tells told.
-    rw (c.in-Ok.ensures.names, c.in-Ok-prepare.ensures.script tells)
+returns-clause-ordered g c = λ tells told script is.
+    rw (c.in-Ok-prepare.ensures.only tells script (rw c.in-Ok.ensures.names at is), c.in-Ok.ensures.names)
     (let ordered = c.work.ensures.ordered tells told in (
       ordered.0,
       ordered.1,
@@ -42,10 +42,14 @@ returns-clause-ordered g c = λ tells told.
 pub returns-clause-read_first : goal.returns-clause-read_first
 returns-clause-read_first g c = λ tells.
     rw c.in-Ok.ensures.names
-    (inl (record {
-      taken = taken-still (g.F.Files.told c.args.files.now) (g.F.Files.told c.prepare.new.files) (g.F.Files.told c.work.new.files) c.in-Ok.named.script.now (name_of c.in-Ok.named.trace) (c.in-Ok-prepare.ensures.reads tells).whole (c.work.ensures.makes tells);
-      no_fault = c.work.ensures.same_read_faults ∙ c.in-Ok-prepare.ensures.same_read_faults;
-    }))
+    (inl (
+      record {
+        taken = taken-still (g.F.Files.told c.args.files.now) (g.F.Files.told c.prepare.new.files) (g.F.Files.told c.work.new.files) _ (name_of c.in-Ok.named.trace) (c.in-Ok-prepare.ensures.reads tells).whole (c.work.ensures.makes tells);
+        no_fault = c.work.ensures.same_read_faults ∙ c.in-Ok-prepare.ensures.same_read_faults;
+      },
+      c.in-Ok-prepare.script,
+      c.in-Ok-prepare.ensures.loaded tells,
+    ))
 
 pub returns-clause-begun : goal.returns-clause-begun
 returns-clause-begun g c = λ tells.
@@ -54,20 +58,27 @@ returns-clause-begun g c = λ tells.
 
 pub returns-clause-touched : goal.returns-clause-touched
 returns-clause-touched g c = λ tells.
-    rw (c.in-Ok.ensures.names, c.in-Ok-prepare.ensures.script tells)
-    (touches-both (g.F.Files.told c.args.files.now) (g.F.Files.told c.prepare.new.files) (g.F.Files.told c.work.new.files) c.in-Ok.named.script.now c.prepare.result (name_of c.in-Ok.named.trace) (c.prepare.ensures.reads tells) (c.work.ensures.makes tells))
+    rw c.in-Ok.ensures.names
+    (touches-wanted _ _ _ _ _ _ (c.in-Ok-prepare.ensures.loaded tells) (touches-both (g.F.Files.told c.args.files.now) (g.F.Files.told c.prepare.new.files) (g.F.Files.told c.work.new.files) _ c.prepare.result (name_of c.in-Ok.named.trace) (c.prepare.ensures.reads tells) (c.work.ensures.makes tells)))
 
 pub returns-in-Err-prepare-clause-ordered : goal.returns-in-Err-prepare-clause-ordered
-returns-in-Err-prepare-clause-ordered g c = λ tells told.
-    let script = script_by c.args.words.now (g.F.Files.told c.args.files.now) in
-    (0, rw (c.flush_early-in-Err-prepare.ensures.same_held told) (none-whole (interfaces_of script) (phases_of script Whole) _), traced-none _ _ _ _ (c.prepare.ensures.reads tells).unmade)
+returns-in-Err-prepare-clause-ordered g c = λ tells told script is.
+    (0, rw (c.flush_early-in-Err-prepare.ensures.same_held told) (none-whole (library_of script) (phases_of script Whole) _), traced-none _ _ _ _ (c.prepare.ensures.reads tells).unmade)
+
+pub returns-in-Err-prepare-clause-decided : goal.returns-in-Err-prepare-clause-decided
+returns-in-Err-prepare-clause-decided g c = λ tells decided script is.
+    decided-early script c.in-Err-prepare.ending (c.in-Err-prepare.ensures.only tells script (rw c.in-Ok.ensures.names at is)) decided
+
+pub returns-in-Err-prepare-clause-explained : goal.returns-in-Err-prepare-clause-explained
+returns-in-Err-prepare-clause-explained g c = λ tells script is.
+    explained-early script c.in-Err-prepare.ending c.args.choices.now c.requires.none (c.in-Err-prepare.ensures.only tells script (rw c.in-Ok.ensures.names at is)) c.in-Err-prepare.ensures.failed
 
 pub returns-in-Err-prepare-clause-out : goal.returns-in-Err-prepare-clause-out
-returns-in-Err-prepare-clause-out g c = λ tells told.
-    leaves-early g.O.Sink.held c.args.out.now c.flush_early-in-Err-prepare.new.out (script_by c.args.words.now (g.F.Files.told c.args.files.now)) c.in-Err-prepare.ending c.args.choices.now (rw c.in-Ok.ensures.names (c.in-Err-prepare.ensures.script tells)) c.in-Err-prepare.ensures.failed (c.flush_early-in-Err-prepare.ensures.same_held told)
+returns-in-Err-prepare-clause-out g c = λ tells told script is.
+    leaves-early g.O.Sink.held c.args.out.now c.flush_early-in-Err-prepare.new.out script c.in-Err-prepare.ending c.args.choices.now (c.in-Err-prepare.ensures.only tells script (rw c.in-Ok.ensures.names at is)) c.in-Err-prepare.ensures.failed (c.flush_early-in-Err-prepare.ensures.same_held told)
 
 pub returns-in-Err-prepare-clause-trace : goal.returns-in-Err-prepare-clause-trace
-returns-in-Err-prepare-clause-trace g c = λ tells.
+returns-in-Err-prepare-clause-trace g c = λ tells script is.
     leaves-none _ _ _ _ _ c.in-Err-prepare.ensures.failed (c.prepare.ensures.reads tells).unmade
 
 pub returns-in-Err-prepare-clause-read_first : goal.returns-in-Err-prepare-clause-read_first
@@ -91,21 +102,21 @@ pub returns-in-Err-clause-touched : goal.returns-in-Err-clause-touched
 returns-in-Err-clause-touched g c = λ tells. touches-nothing _ _ _
 
 pub returns-in-Err-clause-ordered : goal.returns-in-Err-clause-ordered
-returns-in-Err-clause-ordered g c = λ tells told.
-    let script = script_by c.args.words.now (g.F.Files.told c.args.files.now) in
-    (0, rw (c.flush_early.ensures.same_held told) (none-whole (interfaces_of script) (phases_of script Whole) _), traced-none (g.F.Files.told c.args.files.now) (g.F.Files.told c.args.files.now) _ _ (unmade-still (g.F.Files.told c.args.files.now)))
+returns-in-Err-clause-ordered g c = λ tells told script is.
+    (0, rw (c.flush_early.ensures.same_held told) (none-whole (library_of script) (phases_of script Whole) _), traced-none (g.F.Files.told c.args.files.now) (g.F.Files.told c.args.files.now) _ _ (unmade-still (g.F.Files.told c.args.files.now)))
 
 pub returns-in-Err-clause-decided : goal.returns-in-Err-clause-decided
-returns-in-Err-clause-decided g c = λ tells. decided-early _ c.in-Err.ending (words-early _ _ c.in-Err.ending c.in-Err.ensures.names)
+returns-in-Err-clause-decided g c = λ tells decided script is.
+    decided-early script c.in-Err.ending (words-early _ _ script c.in-Err.ending c.in-Err.ensures.names is) decided
 
 pub returns-in-Err-clause-explained : goal.returns-in-Err-clause-explained
-returns-in-Err-clause-explained g c = λ tells.
-    explained-early _ c.in-Err.ending c.args.choices.now c.requires.none (words-early _ _ c.in-Err.ending c.in-Err.ensures.names) c.in-Err.ensures.failed
+returns-in-Err-clause-explained g c = λ tells script is.
+    explained-early script c.in-Err.ending c.args.choices.now c.requires.none (words-early _ _ script c.in-Err.ending c.in-Err.ensures.names is) c.in-Err.ensures.failed
 
 pub returns-in-Err-clause-out : goal.returns-in-Err-clause-out
-returns-in-Err-clause-out g c = λ tells told.
-    leaves-early g.O.Sink.held c.args.out.now c.flush_early.new.out _ c.in-Err.ending c.args.choices.now (words-early _ _ c.in-Err.ending c.in-Err.ensures.names) c.in-Err.ensures.failed (c.flush_early.ensures.same_held told)
+returns-in-Err-clause-out g c = λ tells told script is.
+    leaves-early g.O.Sink.held c.args.out.now c.flush_early.new.out script c.in-Err.ending c.args.choices.now (words-early _ _ script c.in-Err.ending c.in-Err.ensures.names is) c.in-Err.ensures.failed (c.flush_early.ensures.same_held told)
 
 pub returns-in-Err-clause-trace : goal.returns-in-Err-clause-trace
-returns-in-Err-clause-trace g c = λ tells.
+returns-in-Err-clause-trace g c = λ tells script is.
     leaves-none _ _ _ _ _ c.in-Err.ensures.failed (unmade-still (g.F.Files.told c.args.files.now))

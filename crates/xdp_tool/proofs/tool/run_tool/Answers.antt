@@ -5,16 +5,16 @@ use Rattle.xdp_tool.proofs.Telling.{explained-told, told-end, trace-front, trace
 use Rattle.xdp_tool.proofs.tool.run_tool.Goals as goal
 
 pub returns-clause-explained : goal.returns-clause-explained
-returns-clause-explained g c = λ tells. (
+returns-clause-explained g c = λ tells script is. (
   Whole,
-  rw (c.ended_so.ensures.status, c.ended_so.ensures.choices) (explained-told _ _ c.tell.result c.run-ending.result c.tell.ensures.same (c.run-ending.ensures.explained tells)),
-  rw c.ended_so.ensures.choices (λ told. (c.run-ending.ensures.out tells told).front),
-  rw c.ended_so.ensures.choices (trace-front _ _ _ _ _ (c.run-ending.ensures.trace tells)),
+  rw (c.ended_so.ensures.status, c.ended_so.ensures.choices) (explained-told _ _ c.tell.result c.run-ending.result c.tell.ensures.same (c.run-ending.ensures.explained tells script is)),
+  rw c.ended_so.ensures.choices (λ told. (c.run-ending.ensures.out tells told script is).front),
+  rw c.ended_so.ensures.choices (trace-front _ _ _ _ _ (c.run-ending.ensures.trace tells script is)),
 )
 
 pub returns-clause-traced : goal.returns-clause-traced
-returns-clause-traced g c = λ tells ended.
-    rw c.ended_so.ensures.choices (trace-whole _ _ _ _ _ (told-end c.tell.result c.run-ending.result c.tell.ensures.same (sym (ap is_end c.ended_so.ensures.status) ∙ ended)) (c.run-ending.ensures.trace tells))
+returns-clause-traced g c = λ tells ended script is.
+    rw c.ended_so.ensures.choices (trace-whole _ _ _ _ _ (told-end c.tell.result c.run-ending.result c.tell.ensures.same (sym (ap is_end c.ended_so.ensures.status) ∙ ended)) (c.run-ending.ensures.trace tells script is))
 
 pub returns-clause-ordered : goal.returns-clause-ordered
-returns-clause-ordered g c = λ tells told. rw c.ended_so.ensures.choices (c.run-ending.ensures.ordered tells told)
+returns-clause-ordered g c = λ tells told script is. rw c.ended_so.ensures.choices (c.run-ending.ensures.ordered tells told script is)

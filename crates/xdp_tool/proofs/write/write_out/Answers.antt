@@ -10,7 +10,7 @@ use Rattle.xdp_tool.proofs.write.write_out.Goals as goal
 pub returns-in-Ok-clause-text : goal.returns-in-Ok-clause-text
 returns-in-Ok-clause-text g c = λ tells begun phase past carried shows is.
     let p = c.in-Ok.ensures.prints begun phase past carried shows is in
-    let put : PutsText c.pass_on.result (g.O.Sink.held c.args.out.now) (g.O.Sink.held c.pass_on.new.sink) (phase_text c.args.shown.now.interfaces.now phase past (past_with past carried)) =
+    let put : PutsText c.pass_on.result (g.O.Sink.held c.args.out.now) (g.O.Sink.held c.pass_on.new.sink) (phase_text c.args.shown.now.library.now phase past (past_with past carried)) =
     passed-on _ _ _ _ _ _ _ _ _ _ _ _ _ _ _ c.pass_on.result c.requires.waiting p c.pass_on.ensures.prints c.pass_on.ensures.empty tells
     in search (rules, p.setting, put)
 
@@ -38,6 +38,6 @@ returns-in-Ok-clause-waiting g c =
 pub returns-in-Err-clause-text : goal.returns-in-Err-clause-text
 returns-in-Err-clause-text g c = λ tells begun phase past carried shows is.
     let p = c.in-Err.ensures.prints begun phase past carried shows is in
-    let put : AppendsPrefix (g.O.Sink.held c.args.out.now) (g.O.Sink.held c.phase_print-printed.new.printer.sink.now) (phase_text c.args.shown.now.interfaces.now phase past (past_with past carried)) =
+    let put : AppendsPrefix (g.O.Sink.held c.args.out.now) (g.O.Sink.held c.phase_print-printed.new.printer.sink.now) (phase_text c.args.shown.now.library.now phase past (past_with past carried)) =
     cut-short _ _ _ _ _ _ _ _ _ _ _ c.requires.waiting p tells
     in (put.0, search (rules, p.setting, put.1))

@@ -14,7 +14,7 @@ loop-change-init c = λ before standings stands taken due.
     record {
       state = now;
       up = rw at.count at (c.in_ok-carry_due.ensures published standings at.is
-          (rw count (all-start published (length before) (length published) standings c.args.hand_ins.now c.args.counts.now c.args.self.now.processors.items refl stands.processors due)));
+          (rw count (all-start c.args.library.now published (length before) (length published) standings c.args.hand_ins.now c.args.counts.now c.args.self.now.processors.items refl stands.processors due)));
     }
 
 pub loop-change-preserved : goal.loop-change-preserved
@@ -38,7 +38,7 @@ returns c = λ before standings stands taken due.
     let published = before ++ changes in
     let i = c.loop-change.change-index in
     let all : length changes ≤ i = omega arith in
-    let end = all-end published (length before + i + 1) standings c.args.hand_ins.now c.args.counts.now c.loop-change.self.processors.items (omega (arith, length-append before changes)) inv.up in
+    let end = all-end c.args.library.now published (length before + i + 1) standings c.args.hand_ins.now c.args.counts.now c.loop-change.self.processors.items (omega (arith, length-append before changes)) inv.up in
     if_ok-both c.finish_all.result _ _ _ (λ carried lists idle. record {
       lists = lists ∙ end.carried;
       stands = record { state = inv.state ∙ ap (λ xs. after (before ++ xs)) (take_all i changes all); processors = idle };

@@ -24,7 +24,7 @@ returns-clause-shows c = λ begun past standings phase stands.
     let at = stands.walks.at in
     let rests = stands.rests in
     let carries = c.in_ok-counts.ensures begun standings phase at stands.walks.carrier (stands.walks.standing ∙ sym at.processors) in
-    let lists : c.as_slice.result.now ≡ at_hand_in standings phase = c.as_slice.ensures ∙ carries.1.lists in
+    let lists : c.as_slice.result.now ≡ at_hand_in c.args.self.now.walk.script.now.library standings phase = c.as_slice.ensures ∙ carries.1.lists in
     record {
       rules = rests.shows.rules;
       sums = c.in_ok-add.ensures.sums rests.earlier rests.carried rests.shows.sums
@@ -42,8 +42,8 @@ returns-clause-walks c = λ begun past standings phase stands.
       at = c.in_ok-items.ensures.opened begun phase at;
       state = stands.walks.state;
       carrier = carries.1.stands;
-      standing = rw c.open_next.ensures.same (length-standings phase.work.published standings phase.work.hand_ins hand_ins ∙ stands.walks.standing);
-      interfaces = rw c.open_next.ensures.same stands.walks.interfaces;
+      standing = rw c.open_next.ensures.same (length-standings c.args.self.now.walk.script.now.library phase.work.published standings phase.work.hand_ins hand_ins ∙ stands.walks.standing);
+      library = rw c.open_next.ensures.same stands.walks.library;
       waiting = stands.walks.waiting;
     }
 

@@ -16,14 +16,14 @@ turns-preserved-in-Publish c =
       at = λ begun past standings first stands.
           let at = inv.at begun past standings first stands in
           let goes = rw inv.same at (c.in_ok-change.ensures.goes begun at.phase at.stands.walks.at at.stands.walks.state) in
-          let next = phase_after script.interfaces at.phase (drop n script.lines) in
-          let step = turn-goes_on script.interfaces at.phase script.lines n _ goes.0 (ap goes_on c.in-Publish.is) in
+          let next = phase_after script.library at.phase (drop n script.lines) in
+          let step = turn-goes_on script.library at.phase script.lines n _ goes.0 (ap goes_on c.in-Publish.is) in
           record {
             phase = next;
             stands = stands-on c.turns.self _ begun past standings at.phase next at.stands goes.1 c.next.ensures.same
-                (absorbed at.phase.work.published next.work.published c.in-Publish.change _ (c.absorb.ensures ∙ ap (λ b. applied b c.in-Publish.change) at.stands.walks.state) (turn-publishes script.interfaces at.phase (drop n script.lines) c.in-Publish.change (sym c.in-Publish.is ∙ goes.0)))
+                (absorbed at.phase.work.published next.work.published c.in-Publish.change _ (c.absorb.ensures ∙ ap (λ b. applied b c.in-Publish.change) at.stands.walks.state) (turn-publishes script.library at.phase (drop n script.lines) c.in-Publish.change (sym c.in-Publish.is ∙ goes.0)))
                 refl refl refl;
-            phases = at.phases ∙ (step ∙ ap (λ m. phases_from script.interfaces next (drop m script.lines)) (sym moved));
+            phases = at.phases ∙ (step ∙ ap (λ m. phases_from script.library next (drop m script.lines)) (sym moved));
           };
       room = record { within = c.in_ok-change.ensures.within; published = omega (arith, moved, applied-few c.turns.self.state c.in-Publish.change, inv.room.published, ap (λ b. b.count) c.absorb.ensures); packets = c.in_ok-change.ensures.packets };
       later = omega (arith, moved, inv.later);
@@ -40,14 +40,14 @@ turns-preserved-in-HandIn c =
       at = λ begun past standings first stands.
           let at = inv.at begun past standings first stands in
           let goes = rw inv.same at (c.in_ok-change.ensures.goes begun at.phase at.stands.walks.at at.stands.walks.state) in
-          let next = phase_after script.interfaces at.phase (drop n script.lines) in
-          let step = turn-goes_on script.interfaces at.phase script.lines n _ goes.0 (ap goes_on c.in-HandIn.is) in
+          let next = phase_after script.library at.phase (drop n script.lines) in
+          let step = turn-goes_on script.library at.phase script.lines n _ goes.0 (ap goes_on c.in-HandIn.is) in
           record {
             phase = next;
             stands = stands-on c.turns.self _ begun past standings at.phase next at.stands goes.1 c.next.ensures.same
-                (at.stands.walks.state ∙ ap after (sym (turn-hands script.interfaces at.phase (drop n script.lines) _ (sym c.in-HandIn.is ∙ goes.0))))
+                (at.stands.walks.state ∙ ap after (sym (turn-hands script.library at.phase (drop n script.lines) _ (sym c.in-HandIn.is ∙ goes.0))))
                 refl refl refl;
-            phases = at.phases ∙ (step ∙ ap (λ m. phases_from script.interfaces next (drop m script.lines)) (sym moved));
+            phases = at.phases ∙ (step ∙ ap (λ m. phases_from script.library next (drop m script.lines)) (sym moved));
           };
       room = record { within = c.in_ok-change.ensures.within; published = omega (arith, moved, inv.room.published); packets = c.in_ok-change.ensures.packets };
       later = omega (arith, moved, inv.later);
@@ -64,14 +64,14 @@ turns-preserved c =
       at = λ begun past standings first stands.
           let at = inv.at begun past standings first stands in
           let goes = rw inv.same at (c.in_ok-change.ensures.goes begun at.phase at.stands.walks.at at.stands.walks.state) in
-          let next = phase_after script.interfaces at.phase (drop n script.lines) in
-          let step = turn-goes_on script.interfaces at.phase script.lines n _ goes.0 (ap goes_on c.in-Again.is) in
+          let next = phase_after script.library at.phase (drop n script.lines) in
+          let step = turn-goes_on script.library at.phase script.lines n _ goes.0 (ap goes_on c.in-Again.is) in
           record {
             phase = next;
             stands = stands-on c.turns.self _ begun past standings at.phase next at.stands goes.1 c.next.ensures.same
-                (at.stands.walks.state ∙ ap after (sym (turn-again script.interfaces at.phase (drop n script.lines) (sym c.in-Again.is ∙ goes.0))))
+                (at.stands.walks.state ∙ ap after (sym (turn-again script.library at.phase (drop n script.lines) (sym c.in-Again.is ∙ goes.0))))
                 refl refl refl;
-            phases = at.phases ∙ (step ∙ ap (λ m. phases_from script.interfaces next (drop m script.lines)) (sym moved));
+            phases = at.phases ∙ (step ∙ ap (λ m. phases_from script.library next (drop m script.lines)) (sym moved));
           };
       room = record { within = c.in_ok-change.ensures.within; published = omega (arith, moved, inv.room.published); packets = c.in_ok-change.ensures.packets };
       later = omega (arith, moved, inv.later);
@@ -85,7 +85,7 @@ returns-in-End-clause-ends c = λ begun past standings first stands.
     let script = c.args.self.now.walk.script.now in
     let at = inv.at begun past standings first stands in
     let goes = rw inv.same at (c.in_ok-change.ensures.goes begun at.phase at.stands.walks.at at.stands.walks.state) in
-    let ends = turn-ends script.interfaces at.phase script.lines script.lines n c.next.new.self.next c.in-End.barrier at.stands.walks.at.open_still (sym c.in-End.is ∙ goes.0)
+    let ends = turn-ends script.library at.phase script.lines script.lines n c.next.new.self.next c.in-End.barrier at.stands.walks.at.open_still (sym c.in-End.is ∙ goes.0)
     (λ line some. moved-by _ _ line _ _ c.in-End.is some c.in_ok-change.ensures.moves) in
     record {
       phase = at.phase;

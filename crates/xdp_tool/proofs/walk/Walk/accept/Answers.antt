@@ -1,4 +1,4 @@
-use Rattle.std.proofs.Common.{◌≡◌, ◌+◌, [], ◌∷◌, ◌++◌, length, length-append, append_assoc, refl, ap, ◌∙◌, arith, true}
+use Rattle.std.proofs.Common.{None, ◌≡◌, ◌+◌, [], ◌∷◌, ◌++◌, length, length-append, append_assoc, refl, ap, ◌∙◌, arith, true}
 use Rattle.script_text.specs.declared.outcome.Outcome.TheVariants as outcome
 use Rattle.xdp_state.proofs.Counts.{taken_more}
 use Rattle.xdp_state.specs.Book.{after, takes}
@@ -7,13 +7,13 @@ use Rattle.xdp_tool.proofs.Walking.{count-is, refused-push, rising-higher, risin
 use Rattle.xdp_tool.proofs.walk.Walk.accept.Goals as goal
 
 pub returns-clause-goes : goal.returns-clause-goes
-returns-clause-goes c = λ begun phase at same.
+returns-clause-goes c = λ table begun phase at same.
     let published = phase.work.published in
     let change = c.args.change in
     let n = length (published ++ change ∷ []) in
     let len : n ≡ length published + 1 = length-append published (change ∷ []) ∙ omega arith in
     let number : c.count-count.result ≡ length published = count-is published c.count-count.result at.taken (c.count-count.ensures ∙ ap (λ b. b.count) same) in
-    let item : Item = record { line = c.args.line; outcome = outcome.Ok (length published + 1); count = n } in (
+    let item : Item = record { line = c.args.line; outcome = outcome.Ok (length published + 1); count = n; table = None } in (
       refl,
       record {
         items = rw (c.in_ok-push.ensures.items, at.items, number, len) refl;

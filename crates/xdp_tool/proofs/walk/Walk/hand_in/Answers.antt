@@ -1,4 +1,4 @@
-use Rattle.std.proofs.Common.{◌≡◌, ◌+◌, length, refl, ap, ◌∙◌}
+use Rattle.std.proofs.Common.{None, ◌≡◌, ◌+◌, length, refl, ap, ◌∙◌}
 use Rattle.script_text.specs.declared.outcome.Outcome.TheVariants as outcome
 use Rattle.xdp_tool.specs.Plan.{hand_in}
 use Rattle.xdp_tool.specs.declared.item.Item.{Item}
@@ -10,7 +10,7 @@ returns-clause-goes c = λ begun phase at same.
     let published = phase.work.published in
     let number : c.count.result ≡ length published = count-is published c.count.result at.taken (c.count.ensures ∙ ap (λ b. b.count) same) in
     let number' : c.count-2.result ≡ length published = count-is published c.count-2.result at.taken (c.count-2.ensures ∙ ap (λ b. b.count) same) in
-    let item : Item = record { line = c.args.line; outcome = outcome.Handed 1; count = length published } in
+    let item : Item = record { line = c.args.line; outcome = outcome.Handed 1; count = length published; table = None } in
     let h = hand_in c.args.line c.args.frame.now phase in (
       refl,
       record {

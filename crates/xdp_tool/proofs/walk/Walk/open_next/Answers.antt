@@ -6,7 +6,7 @@ use Rattle.xdp_tool.proofs.walk.Walk.open_next.Goals as goal
 
 pub returns-clause-opened : goal.returns-clause-opened
 returns-clause-opened c = λ begun phase at.
-    let processors : c.len.result ≡ length (queues_of c.args.self.now.script.now.interfaces) =
+    let processors : c.len.result ≡ length (queues_of c.args.self.now.script.now.library.interfaces) =
     c.len.ensures ∙ (omega (arith, c.args.self.now.hand_ins.ok) ∙ (ap length at.hand_ins ∙ at.processors)) in
     record {
       items = ap (λ v. v.items) c.replace-items.ensures.after ∙ c.new.ensures.items;

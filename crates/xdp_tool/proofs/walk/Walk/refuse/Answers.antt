@@ -1,14 +1,14 @@
-use Rattle.std.proofs.Common.{◌≡◌, length, refl, ap, ◌∙◌}
+use Rattle.std.proofs.Common.{None, ◌≡◌, length, refl, ap, ◌∙◌}
 use Rattle.script_text.specs.declared.outcome.Outcome.TheVariants as outcome
 use Rattle.xdp_tool.specs.declared.item.Item.{Item}
 use Rattle.xdp_tool.proofs.Walking.{count-is, refused-now, rising-push}
 use Rattle.xdp_tool.proofs.walk.Walk.refuse.Goals as goal
 
 pub returns-clause-goes : goal.returns-clause-goes
-returns-clause-goes c = λ begun phase at same.
+returns-clause-goes c = λ table begun phase at same.
     let published = phase.work.published in
     let number : c.count.result ≡ length published = count-is published c.count.result at.taken (c.count.ensures ∙ ap (λ b. b.count) same) in
-    let item : Item = record { line = c.args.line; outcome = outcome.Refused c.args.reason; count = length published } in (
+    let item : Item = record { line = c.args.line; outcome = outcome.Refused c.args.reason; count = length published; table = None } in (
       refl,
       record {
         items = rw (c.in_ok-push.ensures.items, at.items, number) refl;
