@@ -1,5 +1,5 @@
 -- The words behind a verb, one after the other.
-use Rattle.std.proofs.Common.{◌≡◌, ℕ, Bool, true, false, List, [], ◌∷◌, Result, Ok, Err, refl, sym, ◌∙◌}
+use Rattle.std.proofs.Common.{◌≡◌, ℕ, true, false, List, [], ◌∷◌, Result, Ok, Err, refl, sym, ◌∙◌}
 use Rattle.script_text.specs.Options.{Arranged, has_value, role_of, with_value, with_word, arranged_behind}
 use Rattle.script_text.specs.Readings.{◌>>=◌}
 use Rattle.script_text.specs.declared.options.Verb.{Verb}

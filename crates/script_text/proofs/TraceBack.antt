@@ -1,9 +1,8 @@
 -- A trace that is printed reads back as the counts of its packets.
-use Rattle.std.proofs.Common.{◌≡◌, ℕ, ◌+◌, ◌-◌, ◌*◌, ◌/◌, ◌%◌, ◌^◌, ◌<◌, ◌≤◌, ◌==◌, zero, suc, Bool, true, false, ◌&&◌, List, [], ◌∷◌, ◌++◌, length, map, replicate, append-nil, append_assoc, length-append, Some, None, Ok, inl, inr, refl, sym, ap, ◌∙◌, arith, eq-eqb}
+use Rattle.std.proofs.Common.{◌≡◌, ℕ, ◌+◌, ◌-◌, ◌*◌, ◌/◌, ◌%◌, ◌^◌, ◌<◌, ◌≤◌, ◌==◌, zero, suc, Bool, true, false, List, [], ◌∷◌, ◌++◌, length, map, replicate, append-nil, append_assoc, length-append, Some, Ok, inl, inr, refl, sym, ap, ◌∙◌, arith, eq-eqb}
 use Rattle.std.proofs.lemmas.Bool.{and_parts, cases_Bool, true≢false}
 use Rattle.std.proofs.lemmas.Bool.Decides.{nat_tests}
 use Rattle.std.proofs.lemmas.Fmt.{decimal_digit, decimal_is_IsNumeral, first_decimal}
-use Rattle.std.proofs.lemmas.List.{length-map}
 use Rattle.std.proofs.lemmas.List.Folds.{list_all_at}
 use Rattle.std.proofs.lemmas.List.Splits.{length-slice_split, slice_split-cons_no, slice_split-cons_yes}
 use Rattle.std.proofs.lemmas.Slice.Eq.{bytes_eq-Decides}
@@ -18,8 +17,8 @@ use Rattle.hex.specs.Hex.{IsBytes, encode_lower, encode_with, lower_digits}
 use Rattle.script_text.proofs.ReadBack.{numbers_back}
 use Rattle.script_text.proofs.TraceLemmas.{last-one}
 use Rattle.script_text.specs.Numbers.{has_zero_in_front, printed_number}
-use Rattle.script_text.specs.Trace.{first_line, heading, last_line, packet_trace, packets_trace, phases_trace, processors_trace, trace_line, whole_trace}
-use Rattle.script_text.specs.TraceRead.{AreTraceable, AreTraceableIn, AreTraceableOn, IsTraceable, TraceCounts, are_printed_pairs, counted_on, counts_in, counts_on, is_heading, is_next, is_printed_digit, is_way, last_phase, no_counts, phases_in, read_from, row_of, trace_read, with_line, with_phase, with_row}
+use Rattle.script_text.specs.Trace.{heading, last_line, packet_trace, packets_trace, phases_trace, processors_trace, trace_line, whole_trace}
+use Rattle.script_text.specs.TraceRead.{AreTraceable, AreTraceableIn, AreTraceableOn, IsTraceable, TraceCounts, are_printed_pairs, counted_on, counts_in, counts_on, is_heading, is_next, is_printed_digit, is_way, no_counts, phases_in, read_from, row_of, trace_read, with_line, with_phase, with_row}
 use Rattle.script_text.specs.Vocabulary.{action_name, action_of}
 use Rattle.script_text.specs.Words.{parts_of}
 use Rattle.script_text.specs.declared.trace_row.CountRow.{CountRow}

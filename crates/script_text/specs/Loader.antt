@@ -1,5 +1,5 @@
 -- The lines of `xdp-loader`, by the words behind the first.
-use Rattle.std.specs.Prelude.{ℕ, ◌==◌, Bool, not, List, Option, Some, None, is_some, Result, Ok, Err, if◌then◌else◌}
+use Rattle.std.specs.Prelude.{ℕ, Bool, not, List, Option, Some, None, is_some, Result, Ok, Err, if◌then◌else◌}
 use Rattle.std.specs.List.{list_all}
 use Rattle.xdp_state.specs.declared.mode.Mode.TheVariants.{Native}
 use Rattle.xdp_state.specs.declared.command.Command.{Command}

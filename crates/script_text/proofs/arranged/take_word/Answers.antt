@@ -1,6 +1,6 @@
 use Rattle.std.proofs.Common.{◌≡◌, true, false, arith}
 use Rattle.std.proofs.lemmas.Grind.{common_steps}
-use Rattle.script_text.specs.Options.{has_value, role_of}
+use Rattle.script_text.specs.Options.{has_value}
 use Rattle.script_text.proofs.ArrangedLemmas.{word-read, value-read}
 use Rattle.script_text.proofs.arranged.take_word.Goals as goal
 

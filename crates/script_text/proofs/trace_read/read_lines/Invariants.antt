@@ -1,4 +1,4 @@
-use Rattle.std.proofs.Common.{◌≡◌, ◌≤◌, length}
+use Rattle.std.proofs.Common.{◌≡◌, length}
 use Rattle.script_text.specs.TraceRead.{counts_of, no_counts, read_from}
 use Rattle.script_text.specs.Words.{parts_of}
 use Rattle.script_text.proofs.trace_read.read_lines.Given as goal
