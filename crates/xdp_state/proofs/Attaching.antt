@@ -1,6 +1,6 @@
 -- A state before any change, and what its functions make of one hook.
 use Rattle.std.proofs.Common.{◌≡◌, ℕ, zero, suc, ◌+◌, ◌<◌, Bool, true, false, not, cond, ◌&&◌, nat_lt, List, [], ◌∷◌, ◌++◌, length, map, replicate, refl, sym, ap, ◌∙◌, inl, inr, subst, slice_get, slice_set, Some, Result, Ok, Err, OnOk, OnErr, IsErr, ◌↔◌, arith}
-use Rattle.std.specs.Prelude.{◌==◌, filter, insert, count_by, slice_index_or}
+use Rattle.std.specs.Prelude.{◌==◌, filter, count_by, slice_index_or}
 use Rattle.std.specs.List.{list_any}
 use Rattle.std.specs.Bool.{then_some}
 use Rattle.std.proofs.lemmas.Bool.{cases_Bool}
@@ -14,7 +14,7 @@ use Rattle.chain_order.specs.declared.member.Member.{Member}
 use Rattle.chain_order.proofs.Chains.{count-cons}
 use Rattle.filter_rules.specs.declared.rule.RuleRow.{RuleRow}
 use Rattle.xdp_state.specs.Book.{Book, empty, has_place}
-use Rattle.xdp_state.specs.Members.{Attached, chain_on, differs, has_filter, is_filter, members_off, members_without, mode_on}
+use Rattle.xdp_state.specs.Members.{Attached, chain_on, differs, has_filter, is_filter, members_off, mode_on}
 use Rattle.xdp_state.specs.State.{IsWhole, attached_at, attached_from, in_order, view_of}
 use Rattle.xdp_state.specs.declared.hook.Hook.{Hook}
 use Rattle.xdp_state.specs.declared.mode.Mode.{Mode}

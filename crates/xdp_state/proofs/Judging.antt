@@ -1,29 +1,28 @@
 -- What the questions of a command come to, and that what is accepted is taken.
-use Rattle.std.proofs.Common.{◌≡◌, ℕ, ◌<◌, ◌≤◌, true, false, Bool, not, nat_lt, nat_le, ◌==◌, ◌&&◌, ◌||◌, List, [], ◌∷◌, length, find, Option, Some, None, Result, refl, sym, ap, subst, if◌then◌else◌, arith}
+use Rattle.std.proofs.Common.{◌≡◌, ℕ, ◌<◌, ◌≤◌, true, false, Bool, not, nat_lt, nat_le, ◌==◌, ◌&&◌, ◌||◌, List, [], ◌∷◌, length, Option, Some, None, refl, ap, subst, if◌then◌else◌, arith}
 use Rattle.std.specs.List.{list_any, position, position_or_len}
-use Rattle.std.specs.Option.{unwrap_or, is_some}
+use Rattle.std.specs.Option.{unwrap_or}
 use Rattle.std.specs.Prelude.{slice_get, slice_index_or}
 use Rattle.std.proofs.lemmas.Bool.Decides.{nat_tests}
 use Rattle.std.proofs.lemmas.Grind.{common_steps}
 use Rattle.std.proofs.lemmas.Option.{slice_get_read}
 use Rattle.chain_order.specs.declared.member.Kind.{Kind}
-use Rattle.chain_order.specs.declared.member.Kind.TheVariants as kind
 use Rattle.filter_rules.specs.Rules.{has_row, has_rule}
 use Rattle.filter_rules.specs.declared.rule.RuleKey.{RuleKey}
 use Rattle.object_load.specs.declared.program.Program.{Program}
 use Rattle.xdp_state.specs.Answer.{answer, at_interface, attach_answer, clear_answer, filter_answer, filter_off_answer, first_of, has_asked, lacks_feature, load_answer, load_change, loaded_at, object_answer, off_answer, off_change, program_answer, rule_fits, set_answer, status_answer, is_asked}
-use Rattle.xdp_state.specs.Book.{Book, fits, has_own_flags, has_place, takes}
+use Rattle.xdp_state.specs.Book.{Book, fits, has_own_flags, takes}
 use Rattle.xdp_state.specs.Interfaces.{has_name, is_declared, interface_named}
 use Rattle.xdp_state.specs.Library.{filter_name, rank}
 use Rattle.xdp_state.specs.Members.{chain_on, differs, filter_number, has_filter, has_filter_elsewhere, has_filter_somewhere, is_filter, mode_on}
 use Rattle.xdp_state.specs.declared.change.Change.{Change}
-use Rattle.xdp_state.specs.declared.change.Change.TheVariants.{Attach, Detach, DetachAll, SetRule, ClearRule}
+use Rattle.xdp_state.specs.declared.change.Change.TheVariants.{Attach, Detach, SetRule, ClearRule}
 use Rattle.xdp_state.specs.declared.command.Command.{Command}
 use Rattle.xdp_state.specs.declared.command.Command.TheVariants.{LoaderLoad, LoaderUnload, LoaderStatus, FilterLoad, FilterUnload, FilterRule, FilterStatus}
 use Rattle.xdp_state.specs.declared.command.LoadWords.{LoadWords}
 use Rattle.xdp_state.specs.declared.interface.Interface.{Interface}
 use Rattle.xdp_state.specs.declared.judgement.Judgement.{Judgement}
-use Rattle.xdp_state.specs.declared.judgement.Judgement.TheVariants.{Accepted, Shown, Refused}
+use Rattle.xdp_state.specs.declared.judgement.Judgement.TheVariants.{Accepted, Shown}
 use Rattle.xdp_state.specs.declared.judgement.Reason.{Reason}
 use Rattle.xdp_state.specs.declared.judgement.Reason.TheVariants.{NoInterface, ModeDiffers, ChainFull, NothingLoaded, NoSuchId, FilterThere, FilterNotThere, FeatureMissing, RulesFull, NoSuchRule}
 use Rattle.xdp_state.specs.declared.library.Library.{Library}

@@ -1,6 +1,6 @@
 -- What a state stands for, as one of its hooks changes.
-use Rattle.std.proofs.Common.{◌≡◌, ℕ, zero, suc, ◌+◌, ◌<◌, ◌≤◌, Bool, true, false, not, cond, List, [], ◌∷◌, ◌++◌, length, map, refl, sym, ap, ◌∙◌, subst, ◌⊎◌, inl, inr, nat_lt, slice_get, slice_set, Option, Some, None, add-one, arith}
-use Rattle.std.specs.Prelude.{◌==◌, ◌&&◌, filter, insert, count_by, option_map}
+use Rattle.std.proofs.Common.{◌≡◌, ℕ, zero, suc, ◌+◌, ◌<◌, Bool, true, false, not, cond, List, [], ◌∷◌, ◌++◌, length, map, refl, sym, ap, ◌∙◌, subst, ◌⊎◌, inl, inr, nat_lt, slice_get, slice_set, Option, Some, None, add-one, arith}
+use Rattle.std.specs.Prelude.{◌==◌, filter, insert, option_map}
 use Rattle.std.specs.List.{AllByRecursion, list_any}
 use Rattle.std.proofs.lemmas.Bool.{cases_Bool, not-false}
 use Rattle.std.proofs.lemmas.Bool.Decides.{nat_tests}
@@ -13,8 +13,7 @@ use Rattle.chain_order.specs.Member.{has_number}
 use Rattle.chain_order.specs.Sorted.{by_key}
 use Rattle.chain_order.specs.declared.member.Member.{Member}
 use Rattle.chain_order.proofs.Ranking.{chain_is, length-chain}
-use Rattle.xdp_state.specs.Book.{Book}
-use Rattle.xdp_state.specs.Members.{Attached, chain_on, differs, members_of, members_off, members_without, mode_on, same_mode}
+use Rattle.xdp_state.specs.Members.{Attached, chain_on, differs, members_of, members_off, mode_on, same_mode}
 use Rattle.xdp_state.specs.State.{IsWhole, attached_at, attached_from, in_order, view_of}
 use Rattle.xdp_state.specs.declared.hook.Hook.{Hook}
 use Rattle.xdp_state.specs.declared.mode.Mode.{Mode}

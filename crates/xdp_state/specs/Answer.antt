@@ -15,7 +15,7 @@ use Rattle.filter_rules.specs.declared.rule.RuleKind.TheVariants.{Port, Ip4, Ip6
 use Rattle.object_load.specs.declared.program.Program.{Program}
 use Rattle.xdp_state.specs.Book.{Book, has_own_flags}
 use Rattle.xdp_state.specs.Interfaces.{is_declared, interface_named}
-use Rattle.xdp_state.specs.Library.{programs_in, number_of, filter_name, rank}
+use Rattle.xdp_state.specs.Library.{number_of, filter_name, rank}
 use Rattle.xdp_state.specs.Members.{Attached, chain_on, differs, filter_number, has_filter, has_filter_elsewhere, has_filter_somewhere, is_on, mode_on}
 use Rattle.xdp_state.specs.declared.change.Change.{Change}
 use Rattle.xdp_state.specs.declared.change.Change.TheVariants.{Attach, Detach, DetachAll, SetRule, ClearRule}
@@ -29,7 +29,6 @@ use Rattle.xdp_state.specs.declared.judgement.Reason.TheVariants.{NoInterface, B
 use Rattle.xdp_state.specs.declared.library.Library.{Library}
 use Rattle.xdp_state.specs.declared.library.Loaded.{Loaded}
 use Rattle.xdp_state.specs.declared.library.Loaded.TheVariants as loaded
-use Rattle.xdp_state.specs.declared.library.ObjectRow.{ObjectRow}
 use Rattle.xdp_state.specs.declared.mode.Mode.{Mode}
 
 -- a reason to refuse a command, and whether it holds

@@ -1,5 +1,5 @@
 -- The programs of a run, by number: objects in order, and the programs of one object in order.
-use Rattle.std.specs.Prelude.{ℕ, ◌+◌, ◌<◌, ◌^◌, ◌&&◌, Bool, not, nat_eq, List, [], ◌∷◌, ◌++◌, codes, count_by, length, map, take, All, Option, slice_get, if◌then◌else◌}
+use Rattle.std.specs.Prelude.{ℕ, ◌+◌, ◌<◌, ◌^◌, ◌&&◌, Bool, not, nat_eq, List, [], ◌∷◌, codes, count_by, length, map, take, All, Option, slice_get, if◌then◌else◌}
 use Rattle.std.specs.Cmp.Lexicographic.{pointwise, slice_cmp}
 use Rattle.std.specs.List.{flat_map, list_any}
 use Rattle.std.specs.Ordering.{is_lt, nat_cmp}

@@ -1,7 +1,7 @@
-use Rattle.std.proofs.Common.{◌≡◌, ℕ, Bool, not, ◌&&◌, sym, ap, ◌∙◌, arith}
+use Rattle.std.proofs.Common.{◌≡◌, ℕ, not, ◌&&◌, sym, ap, ◌∙◌, arith}
 use Rattle.std.specs.Prelude.{◌==◌}
 use Rattle.std.proofs.lemmas.Bool.Decides.{nat_tests}
-use Rattle.xdp_state.specs.Members.{Attached, chain_on, has_filter}
+use Rattle.xdp_state.specs.Members.{chain_on, has_filter}
 use Rattle.xdp_state.proofs.Ranges.{any_found, any_more}
 use Rattle.xdp_state.proofs.filters.has_filter_elsewhere.Goals as goal
 use Rattle.xdp_state.proofs.filters.has_filter_elsewhere.Goals.{else-interface-but-via-then-interface-but+else-has_filter, else-interface-but-via-else-interface-but}

@@ -1,4 +1,4 @@
-use Rattle.std.proofs.Common.{◌≡◌, sym, ap, ◌∙◌, arith}
+use Rattle.std.proofs.Common.{sym, ap, ◌∙◌, arith}
 use Rattle.xdp_state.specs.Members.{chain_on, has_filter}
 use Rattle.xdp_state.proofs.Ranges.{any_found, any_more}
 use Rattle.xdp_state.proofs.filters.has_filter_somewhere.Goals as goal

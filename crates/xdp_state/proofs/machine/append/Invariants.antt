@@ -1,4 +1,4 @@
-use Rattle.std.proofs.Common.{◌≡◌, ◌+◌, ◌≤◌, ◌++◌, length, vec_capacity, vec_len}
+use Rattle.std.proofs.Common.{◌≡◌, ◌+◌, ◌++◌, length, vec_capacity, vec_len}
 use Rattle.xdp_state.proofs.machine.append.Given as goal
 
 abbrev pub invariant-loop-store : goal.invariant-loop-store

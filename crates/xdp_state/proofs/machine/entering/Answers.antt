@@ -1,4 +1,3 @@
-use Rattle.std.proofs.Common.{◌≡◌}
 use Rattle.xdp_state.proofs.Stores.{entered, entered_none}
 use Rattle.xdp_state.proofs.machine.entering.Goals as goal
 use Rattle.xdp_state.proofs.machine.entering.Goals.{in-Some+in_ok-push, in_default}

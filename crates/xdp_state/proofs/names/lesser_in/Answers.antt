@@ -1,7 +1,7 @@
 use Rattle.std.proofs.Common.{◌≡◌, ◌+◌, drop, ap, sym, ◌∙◌, arith}
 use Rattle.std.proofs.lemmas.List.{take_rest}
 use Rattle.object_load.specs.declared.program.Program.{Program}
-use Rattle.xdp_state.specs.Library.{is_last_less, names_of, programs_of}
+use Rattle.xdp_state.specs.Library.{is_last_less}
 use Rattle.xdp_state.proofs.Lesser.{bit, lesser-next}
 use Rattle.xdp_state.proofs.names.lesser_in.Goals as goal
 use Rattle.xdp_state.proofs.names.lesser_in.Goals.{then-is_last_less, else-is_last_less}

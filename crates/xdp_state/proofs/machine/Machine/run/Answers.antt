@@ -1,4 +1,4 @@
-use Rattle.std.proofs.Common.{◌≡◌, List, Some, None, [], sym, ap, ◌∙◌}
+use Rattle.std.proofs.Common.{◌≡◌, List, Some, [], sym, ap, ◌∙◌}
 use Rattle.std.specs.Prelude.{◌==◌, position}
 use Rattle.std.specs.Option.{option_map_or}
 use Rattle.xdp_state.specs.Stores.{MemberMaps, maps_of, with_maps}

@@ -1,7 +1,7 @@
-use Rattle.std.proofs.Common.{◌≡◌, ap, ◌∙◌}
+use Rattle.std.proofs.Common.{ap, ◌∙◌}
 use Rattle.std.proofs.lemmas.Result.{on_err_weaker, on_ok_weaker}
 use Rattle.xdp_state.specs.Standing.{Standing}
-use Rattle.xdp_state.specs.Stores.{MemberMaps, prepared}
+use Rattle.xdp_state.specs.Stores.{prepared}
 use Rattle.xdp_state.proofs.Ways.{same_carrier}
 use Rattle.xdp_state.proofs.own.Own.prepare.Goals as goal
 
