@@ -241,12 +241,21 @@ fn tally(alloc: Global) -> Result<Tally, OutOfMemory> {
     Ok(tally)
 }
 
+fn is_status(alloc: Global, state: &State, interfaces: &InterfaceList, tally: &Tally) -> bool {
+    if interfaces.len() > 8 {
+        return false;
+    }
+    match rules_text(alloc, state, interfaces, tally) {
+        Ok(text) => text.as_slice() == STATUS.as_bytes(),
+        Err(OutOfMemory) => false,
+    }
+}
+
 #[test]
 fn status(rt: HostRuntime) -> Result<(), Fail> {
     let interfaces = interfaces(rt.alloc())?;
     let state = state(rt.alloc())?;
     let tally = tally(rt.alloc())?;
-    let text = rules_text(rt.alloc(), &state, &interfaces, &tally)?;
-    assert!(rt; text.as_slice() == STATUS.as_bytes());
+    assert!(rt; is_status(rt.alloc(), &state, &interfaces, &tally));
     Ok(())
 }

@@ -238,6 +238,11 @@ state-more before changes i d state new below is goes =
     goes ∙ (ap (λ b. applied b (get_or changes i d)) is ∙ (sym (after_more (before ++ take i changes) (get_or changes i d))
     ∙ ap after (append_assoc before (take i changes) (get_or changes i d ∷ []) ∙ ap (λ xs. before ++ xs) (sym (take_more changes i d below)))))
 
+-- a processor for each queue
+pub length-standing : (first : ℕ) (queues : List specs.Queue) → length (standings_from first queues) ≡ length queues
+length-standing first [] = refl
+length-standing first (q ∷ queues) = omega (arith, length-standing (first + 1) queues)
+
 standings-push : (first : ℕ) (queues : List specs.Queue) (queue : specs.Queue) → standings_from first (queues ++ queue ∷ []) ≡ standings_from first queues ++ standing_of (first + length queues) queue ∷ []
 standings-push first [] queue = let none : first + 0 ≡ first = omega arith in rw none refl
 standings-push first (q ∷ queues) queue =

@@ -102,7 +102,7 @@ reads-both t t₁ t₂ names more x result first second =
     }
 
 take-front : {X : Type 0} (n : ℕ) (xs ys : List X) → (k : ℕ) × (take n xs ≡ take k (xs ++ ys))
-take-front n [] ys = (0, take-nil n)
+take-front {X = X} n [] ys = (0, take-nil n)
   where
     take-nil : (m : ℕ) → take m (let none : List X = [] in none) ≡ []
     take-nil zero = refl

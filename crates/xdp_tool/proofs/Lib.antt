@@ -10,11 +10,11 @@ pub mod Ordering
 pub mod Phases
 pub mod Places
 pub mod Preparing
+pub mod Printable
 pub mod QueueLists
 pub mod Running
 pub mod Tables
 pub mod Telling
-pub mod Texts
 pub mod Turns
 pub mod Walking
 pub mod Walks

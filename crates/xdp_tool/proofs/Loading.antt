@@ -157,7 +157,7 @@ pub reads-stopped : (t t₁ t₂ : Told) (names : List (List ℕ)) (place : ℕ)
 reads-stopped t t₁ t₂ names place name e here first second =
     let front : Reads {A = Unit {0}} t t₂ (take (place + 1) names) (Err e) =
     rw (next-name names place name here) (reads-both t t₁ t₂ (take place names) (name ∷ []) tt (Err e) first second) in
-    rw take-append-drop (place + 1) names at (reads-front {A = Prepared} t t₂ (take (place + 1) names) (drop (place + 1) names) e front)
+    rw (take-append-drop (place + 1) names) at (reads-front {A = Prepared} t t₂ (take (place + 1) names) (drop (place + 1) names) e front)
 
 -- all of them
 pub reads-all : (t t' : Told) (names : List (List ℕ)) (place : ℕ) (prepared : Prepared) → length names ≤ place → IsReadUpTo t t' (take place names) → Reads {E = Ending} t t' names (Ok prepared)

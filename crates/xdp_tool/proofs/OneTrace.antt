@@ -206,6 +206,6 @@ touches-nothing t names made = record {
 }
 
 -- a script was prepared, so the trace's file may be made
-pub touches-wanted : (t t₂ : Told) (asked : List (List ℕ)) (content : List ℕ → List ℕ) (names : Result Names Ending) (read : Result Script Ending) {prepared : Prepared} → IsPrepared content read (Ok prepared) → Touches t t₂ asked (trace_name names) → Touches t t₂ asked (made_name names read)
-touches-wanted t t₂ asked content names (Ok script) is touches = touches
-touches-wanted t t₂ asked content names (Err e) {prepared} is touches = absurd cc
+pub touches-wanted : (t t₂ : Told) (asked : List (List ℕ)) (content : List ℕ → List ℕ) (names : Result Names Ending) (read : Result Script Ending) (prepared : Prepared) → IsPrepared content read (Ok prepared) → Touches t t₂ asked (trace_name names) → Touches t t₂ asked (made_name names read)
+touches-wanted t t₂ asked content names (Ok script) prepared is touches = touches
+touches-wanted t t₂ asked content names (Err e) prepared is touches = absurd cc

@@ -5,8 +5,8 @@ use Rattle.xdp_tool.specs.declared.prepared.Prepared.{Prepared}
 use Rattle.script_text.specs.Readings.{◌>>=◌}
 use Rattle.script_text.specs.declared.script.Script.{Script}
 use Rattle.xio.specs.Told.{Told}
-use Rattle.xdp_tool.specs.Ending.{status_of}
-use Rattle.xdp_tool.specs.Headline.{IsExplained, is_decided, is_end, out_of}
+use Rattle.xdp_tool.specs.Ending.{err_text, status_of}
+use Rattle.xdp_tool.specs.Headline.{IsExplained, is_decided, is_end, out_of, said}
 use Rattle.xdp_tool.specs.Named.{AreNames, Gives}
 use Rattle.xdp_tool.specs.Outcome.{IsPrepared, Whole, ending_after, phases_of, script_of_names, script_read}
 use Rattle.xdp_tool.specs.Plan.{plan}
@@ -109,6 +109,16 @@ explained-told script choices told e (inr none) explained = record {
   covered = λ decided. absurd (false≢true (sym (ap (λ t. is_decided (status_of t)) none) ∙ decided));
   legal = explained.legal;
 }
+
+-- what is said on err is the text of what is told
+pub said-told : (script : Result Prepared Ending) (told : Ending) → (is_decided (status_of told) ≡ true → told ≡ ending_after script) → said script (status_of told) ≡ err_text told
+said-told script (ending.Done true) is = ap err_text (sym (is refl))
+said-told script (ending.Done false) is = ap err_text (sym (is refl))
+said-told script ending.Usage is = ap err_text (sym (is refl))
+said-told script (ending.BadScript line rule) is = ap err_text (sym (is refl))
+said-told script ending.Fault is = refl
+said-told script ending.OutOfMemory is = refl
+said-told script (ending.Limit name) is = ap err_text (sym (is refl))
 
 -- the parts of what a run leaves in the trace
 pub trace-front : (old new : Told) (text : List ℕ) (status : ℕ) (name : Option (List ℕ)) → IfSome name (LeavesTrace old new text status) → IfSome name (IsTracedUpTo old new text)

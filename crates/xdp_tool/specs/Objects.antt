@@ -1,5 +1,5 @@
 -- How an object is put into a library.
-use Rattle.std.specs.Prelude.{◌≡◌, ℕ, Bool, true, List, [], ◌∷◌, ◌++◌, IsTrue, ⊤, ⊥}
+use Rattle.std.specs.Prelude.{◌≡◌, ℕ, Bool, true, List, [], ◌∷◌, ◌++◌, IsTrue, ⊤}
 use Rattle.xdp_state.specs.declared.library.Library.{Library}
 use Rattle.xdp_state.specs.declared.library.Loaded.{Loaded}
 use Rattle.xdp_state.specs.declared.library.ObjectRow.{ObjectRow}

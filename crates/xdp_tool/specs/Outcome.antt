@@ -1,5 +1,5 @@
 -- What a run comes to: a function of its words, the contents of its files, what its objects load, how far reading went, and its choices.
-use Rattle.std.specs.Prelude.{◌≡◌, ℕ, Bool, true, false, nat_le, nat_lt, List, [], ◌∷◌, length, position, slice_get, Option, Some, None, Result, Ok, Err, if◌then◌else◌, ⊤, ⊥}
+use Rattle.std.specs.Prelude.{◌≡◌, ℕ, Bool, true, false, nat_le, nat_lt, List, [], ◌∷◌, length, position, slice_get, Option, Some, None, Result, Ok, Err, if◌then◌else◌, ⊤}
 use Rattle.std.specs.List.{list_all}
 use Rattle.std.specs.Option.{option_map_or}
 use Rattle.std.specs.Str.{bytes_eq}

@@ -141,7 +141,7 @@ fn loaded_of(alloc: Global, bytes: &[u8]) -> Result<Loaded, OutOfMemory>
 }
 
 /// A name of printable bytes as a text.
-#[tactic(auto, using(crate::proofs::Texts::printable))]
+#[tactic(auto, using(crate::proofs::Printable::printable))]
 fn text_of(name: &[u8]) -> &str
     requires { list_all is_printable name.now ≡ true }
     ensures { result.now ≡ name.now }

@@ -4,5 +4,5 @@ use Rattle.xdp_tool.specs.Traversed.{standings_of}
 use Rattle.xdp_tool.specs.QueueView.{queue_of}
 use Rattle.xdp_tool.proofs.carrier.processors_of.Given as goal
 
-abbrev pub invariant-loop-queue : goal.invariant-loop-queue
-invariant-loop-queue l = AreIdle l.processors.items (standings_of (map queue_of (take l.queue-index l.queues)))
+abbrev pub invariant-loop-number : goal.invariant-loop-number
+invariant-loop-number l = AreIdle l.processors.items (standings_of (map queue_of (take l.number l.queues)))

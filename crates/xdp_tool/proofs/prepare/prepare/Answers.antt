@@ -11,7 +11,7 @@ returns-in-Err-clause-only g c = λ tells script is.
 
 pub returns-in-Err-clause-reads : goal.returns-in-Err-clause-reads
 returns-in-Err-clause-reads g c = λ tells.
-    reads-front _ _ (c.args.name.now ∷ []) (objects_named (script_at ((g.F.Files.told c.args.files.now).content c.args.name.now))) c.in-Err.ending (c.read_named.ensures.reads tells)
+    reads-front _ _ (c.args.name.now ∷ []) (objects_named (script_at ((g.F.Files.told c.args.files.now).content c.args.name.now))) c.in-Err.ending (c.in-Err.ensures.reads tells)
 
 pub returns-in-Err-without_clash-clause-only : goal.returns-in-Err-without_clash-clause-only
 returns-in-Err-without_clash-clause-only g c = λ tells script is.
@@ -19,7 +19,7 @@ returns-in-Err-without_clash-clause-only g c = λ tells script is.
 
 pub returns-in-Err-without_clash-clause-reads : goal.returns-in-Err-without_clash-clause-reads
 returns-in-Err-without_clash-clause-reads g c = λ tells.
-    reads-front _ _ (c.args.name.now ∷ []) (objects_named (script_at ((g.F.Files.told c.args.files.now).content c.args.name.now))) c.in-Err-without_clash.ending
+    reads-front {B = Unit {0}} _ _ (c.args.name.now ∷ []) (objects_named (script_at ((g.F.Files.told c.args.files.now).content c.args.name.now))) c.in-Err-without_clash.ending
     (reads-failed _ _ _ c.in-Ok.script c.in-Err-without_clash.ending (c.in-Ok.ensures.reads tells))
 
 pub returns-in-Ok-without_clash-clause-loaded : goal.returns-in-Ok-without_clash-clause-loaded

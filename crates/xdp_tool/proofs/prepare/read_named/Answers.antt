@@ -13,6 +13,6 @@ pub returns-in-Err-TooLarge-clause-reads : goal.returns-in-Err-TooLarge-clause-r
 returns-in-Err-TooLarge-clause-reads g c = λ tells.
     let asks = rw c.in-Err-TooLarge.field-0-is at (c.in-Err-TooLarge.ensures.asked tells) in reads-part (g.F.Files.handles c.args.files.now) _ _ _ asks.0 _ asks.1
 
-pub returns-in-Err-OutOfMemory-clause-reads : goal.returns-in-Err-OutOfMemory-clause-reads
-returns-in-Err-OutOfMemory-clause-reads g c = λ tells.
+pub returns-clause-reads : goal.returns-clause-reads
+returns-clause-reads g c = λ tells.
     reads-wanting (g.F.Files.handles c.args.files.now) _ _ _ _ (rw c.in-Err-OutOfMemory.field-0-is at (c.in-Err-OutOfMemory.ensures.asked tells))

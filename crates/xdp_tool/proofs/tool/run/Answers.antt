@@ -1,4 +1,5 @@
-use Rattle.std.proofs.Common.{◌∙◌, inl, inr}
+use Rattle.std.proofs.Common.{◌∙◌, inl, inr, Ok}
+use Rattle.command_line.specs.Names.{names_of}
 use Rattle.xdp_tool.specs.Named.{name_of}
 use Rattle.xdp_tool.specs.Outcome.{Whole, library_of, phases_of}
 use Rattle.xdp_tool.proofs.FilesRead.{taken-still}
@@ -59,7 +60,7 @@ returns-clause-begun g c = λ tells.
 pub returns-clause-touched : goal.returns-clause-touched
 returns-clause-touched g c = λ tells.
     rw c.in-Ok.ensures.names
-    (touches-wanted _ _ _ _ _ _ (c.in-Ok-prepare.ensures.loaded tells) (touches-both (g.F.Files.told c.args.files.now) (g.F.Files.told c.prepare.new.files) (g.F.Files.told c.work.new.files) _ c.prepare.result (name_of c.in-Ok.named.trace) (c.prepare.ensures.reads tells) (c.work.ensures.makes tells)))
+    (touches-wanted _ _ _ _ (Ok (names_of c.in-Ok.named)) _ c.in-Ok-prepare.script (c.in-Ok-prepare.ensures.loaded tells) (touches-both (g.F.Files.told c.args.files.now) (g.F.Files.told c.prepare.new.files) (g.F.Files.told c.work.new.files) _ c.prepare.result (name_of c.in-Ok.named.trace) (c.prepare.ensures.reads tells) (c.work.ensures.makes tells)))
 
 pub returns-in-Err-prepare-clause-ordered : goal.returns-in-Err-prepare-clause-ordered
 returns-in-Err-prepare-clause-ordered g c = λ tells told script is.

@@ -1,7 +1,8 @@
-use Rattle.std.proofs.Common.{ap, ◌∙◌, sym}
-use Rattle.xdp_tool.specs.Headline.{is_end}
-use Rattle.xdp_tool.specs.Outcome.{Whole}
-use Rattle.xdp_tool.proofs.Telling.{explained-told, told-end, trace-front, trace-whole}
+use Rattle.std.proofs.Common.{◌≡◌, ap, ◌∙◌, sym, true}
+use Rattle.xdp_tool.specs.Ending.{status_of}
+use Rattle.xdp_tool.specs.Headline.{is_decided, is_end}
+use Rattle.xdp_tool.specs.Outcome.{Whole, ending_after}
+use Rattle.xdp_tool.proofs.Telling.{explained-told, said-told, told-decided, told-end, trace-front, trace-whole}
 use Rattle.xdp_tool.proofs.tool.run_tool.Goals as goal
 
 pub returns-clause-explained : goal.returns-clause-explained
@@ -18,3 +19,10 @@ returns-clause-traced g c = λ tells ended script is.
 
 pub returns-clause-ordered : goal.returns-clause-ordered
 returns-clause-ordered g c = λ tells told script is. rw c.ended_so.ensures.choices (c.run-ending.ensures.ordered tells told script is)
+
+pub returns-clause-err_told : goal.returns-clause-err_told
+returns-clause-err_told g c = λ told known script is.
+    let by_end : is_decided (status_of c.tell.result) ≡ true → c.tell.result ≡ ending_after script = λ decided.
+        let same = told-decided c.tell.result c.run-ending.result c.tell.ensures.same decided in
+        same ∙ c.run-ending.ensures.decided (known (ap is_decided c.ended_so.ensures.status ∙ decided)) (sym (ap (λ e. is_decided (status_of e)) same) ∙ decided) script is in
+    rw (c.ended_so.ensures.status, said-told script c.tell.result by_end) (c.tell.ensures.said told)

@@ -4,7 +4,7 @@ use Rattle.xdp_tool.specs.declared.prepared.Prepared.{Prepared}
 use Rattle.xdp_state.specs.Sums.{no_past, sums_of}
 use Rattle.xdp_tool.specs.QueueView.{queue_of}
 use Rattle.xdp_tool.specs.Queues.{queues_of}
-use Rattle.xdp_tool.specs.Traversed.{standing_of}
+use Rattle.xdp_tool.proofs.Due.{length-standing}
 use Rattle.xdp_tool.proofs.run.Run.new.Goals as goal
 
 pub returns-clause-start : goal.returns-clause-start
@@ -19,7 +19,7 @@ returns-clause-start c =
         at = rw (← n) c.in_ok-new.ensures.start;
         state = c.in_ok-new-2.ensures;
         carrier = rw (c.as_slice.ensures, all) at c.in_ok-new-3.ensures;
-        standing = rw c.in_ok-new.ensures.same (length-map queues standing_of);
+        standing = rw c.in_ok-new.ensures.same (length-standing 0 queues);
         library = ap (λ (s : Prepared). s.library) (sym c.in_ok-new.ensures.same);
         waiting = c.in_ok-new-6.ensures;
       };
