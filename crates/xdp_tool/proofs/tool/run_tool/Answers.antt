@@ -23,6 +23,6 @@ returns-clause-ordered g c = λ tells told script is. rw c.ended_so.ensures.choi
 pub returns-clause-err_told : goal.returns-clause-err_told
 returns-clause-err_told g c = λ told known script is.
     let by_end : is_decided (status_of c.tell.result) ≡ true → c.tell.result ≡ ending_after script = λ decided.
-        let same = told-decided c.tell.result c.run-ending.result c.tell.ensures.same decided in
-        same ∙ c.run-ending.ensures.decided (known (ap is_decided c.ended_so.ensures.status ∙ decided)) (sym (ap (λ e. is_decided (status_of e)) same) ∙ decided) script is in
+    let same = told-decided c.tell.result c.run-ending.result c.tell.ensures.same decided in
+    same ∙ c.run-ending.ensures.decided (known (ap is_decided c.ended_so.ensures.status ∙ decided)) (sym (ap (λ e. is_decided (status_of e)) same) ∙ decided) script is in
     rw (c.ended_so.ensures.status, said-told script c.tell.result by_end) (c.tell.ensures.said told)
