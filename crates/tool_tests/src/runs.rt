@@ -1,11 +1,12 @@
 use std::alloc::{AllocError, Global};
 use std::test::Fail;
-use xdp_tool::{Ended, run_tool};
+use xdp_tool::{Ended, replay_tool, run_tool};
 use xio::{MemoryFiles, MemorySink, OutOfMemory, Sink};
 
 mod faults;
 mod loader;
 mod objects;
+mod replays;
 mod scripts;
 mod words;
 
@@ -82,6 +83,30 @@ fn files_of(alloc: Global, script: &str, outside: Outside<'_>) -> Result<MemoryF
 fn add_trace(files: &mut MemoryFiles, trace: &str) -> Result<(), OutOfMemory> {
     if files.content("t").is_none() {
         files.add("t", trace.as_bytes(), None)?;
+    }
+    Ok(())
+}
+
+/// Replays a trace, which the file `r` holds.
+fn replay(alloc: Global, script: &str, trace: &str) -> Result<Finished, Fail> {
+    let words = words_of(alloc, &["--replay", "r", "s"])?;
+    let mut files = files_of(alloc, script, STEADY)?;
+    add_replayed(&mut files, trace)?;
+    let mut out = MemorySink::new(alloc, 2000, &[])?;
+    let mut err = MemorySink::new(alloc, 1000, &[])?;
+    let ended = replay_tool(alloc, words.as_slice(), &mut files, &mut out, &mut err);
+    Ok(Finished {
+        ended,
+        files,
+        out,
+        err,
+    })
+}
+
+/// Adds the file of the trace that is replayed, which isn't there yet.
+fn add_replayed(files: &mut MemoryFiles, trace: &str) -> Result<(), OutOfMemory> {
+    if files.content("r").is_none() {
+        files.add("r", trace.as_bytes(), None)?;
     }
     Ok(())
 }

@@ -13,7 +13,7 @@ use Rattle.xdp_state.specs.Work.{all_needs, needs_of}
 use Rattle.xdp_state.specs.declared.change.Change.{Change}
 use Rattle.xdp_state.specs.declared.library.Library.{Library}
 use Rattle.xdp_state.specs.declared.packet.HandIn.{HandIn}
-use Rattle.xdp_tool.specs.Carrying.{AllUpTo, AreDue, AreIdle, AreIdleTo, AreStanding, IsUpTo}
+use Rattle.xdp_tool.specs.Carrying.{AllUpTo, AreDue, AreIdle, AreIdleTo, AreLegalFront, AreStanding, IsUpTo}
 use Rattle.xdp_tool.specs.QueueView.{queue_of}
 use Rattle.xdp_tool.specs.Queues as specs
 use Rattle.xdp_tool.specs.Traversed.{standing_of, standings_from, standings_of}
@@ -37,10 +37,9 @@ up_to-more library published standing hs counts now old new h below under is her
       legal = let legal = rw (packets, theirs) at up.legal in rw next (legal.3);
     }
 
-legal-past : (now high : ℕ) (needs counts : List ℕ) → (0 < length needs → 0 < length counts → get_or counts 0 0 ≢ now) → AreLegalCounts now high needs counts → AreLegalCounts (now + 1) high needs counts
-legal-past now high [] [] other legal = tt
-legal-past now high [] (c ∷ cs) other legal = legal
-legal-past now high (n ∷ ns) [] other legal = legal
+legal-past : (now high : ℕ) (needs counts : List ℕ) → (0 < length needs → 0 < length counts → get_or counts 0 0 ≢ now) → AreLegalFront now high needs counts → AreLegalFront (now + 1) high needs counts
+legal-past now high [] counts other legal = tt
+legal-past now high (n ∷ ns) [] other legal = tt
 legal-past now high (n ∷ ns) (c ∷ cs) other legal =
     let apart : c ≢ now = other (omega arith) (omega arith) in
     (omega (arith, legal.0, apart), legal.1, legal.2, legal.3)
@@ -133,7 +132,7 @@ all-start library published low high (s ∷ ss) (hs ∷ hss) (cs ∷ css) (p ∷
 )
 
 -- behind its last publication nothing is left
-none-left : (library : Library) (published : List Change) (left : Standing) (now : ℕ) (hs : List HandIn) (cs : List ℕ) → length published < now → AreLegalCounts now (length published) (needs_of hs) cs → record { packets : carried_from library published left hs cs ≡ []; standing : standing_from library published left hs cs ≡ left }
+none-left : (library : Library) (published : List Change) (left : Standing) (now : ℕ) (hs : List HandIn) (cs : List ℕ) → length published < now → AreLegalFront now (length published) (needs_of hs) cs → record { packets : carried_from library published left hs cs ≡ []; standing : standing_from library published left hs cs ≡ left }
 none-left library published left now [] cs past legal = record { packets = refl; standing = refl }
 none-left library published left now (h ∷ hs) [] past legal = record { packets = refl; standing = refl }
 none-left library published left now (h ∷ hs) (c ∷ cs) past legal = absurd (omega (arith, legal.0, legal.2))
@@ -216,18 +215,24 @@ pub if_ok-both : {T E : Type 0} (r : Result T E) (P : T → Type 0) (Q : Type 0)
 if_ok-both (Ok x) P Q R f p q = f x p q
 if_ok-both (Err e) P Q R f p q = tt
 
+front-of : (last high : ℕ) (needs counts : List ℕ) → AreLegalCounts last high needs counts → AreLegalFront last high needs counts
+front-of last high [] counts legal = tt
+front-of last high (n ∷ ns) [] legal = tt
+front-of last high (n ∷ ns) (c ∷ cs) legal = (legal.0, legal.1, legal.2, front-of c high ns cs legal.3)
+
 -- needs that may be counts are due
 pub due-steady : (low high : ℕ) (ss : List Standing) (hss : List (List HandIn)) → length ss ≡ length hss → AreSteady low high hss → AreDue low high ss hss (all_needs hss)
 due-steady low high [] [] same steady = tt
 due-steady low high [] (hs ∷ hss) same steady = absurd (omega (arith, same))
 due-steady low high (s ∷ ss) [] same steady = absurd (omega (arith, same))
-due-steady low high (s ∷ ss) (hs ∷ hss) same steady = (steady.0, due-steady low high ss hss (omega (arith, same)) steady.1)
+due-steady low high (s ∷ ss) (hs ∷ hss) same steady = (front-of low high (needs_of hs) (needs_of hs) steady.0, due-steady low high ss hss (omega (arith, same)) steady.1)
 
-pub length-standings : (library : Library) (published : List Change) (ss : List Standing) (hss : List (List HandIn)) → length ss ≡ length hss → length (standings_in library published ss hss (all_needs hss)) ≡ length ss
-length-standings library published [] [] same = refl
-length-standings library published [] (hs ∷ hss) same = absurd (omega (arith, same))
-length-standings library published (s ∷ ss) [] same = absurd (omega (arith, same))
-length-standings library published (s ∷ ss) (hs ∷ hss) same = omega (arith, length-standings library published ss hss (omega (arith, same)))
+pub length-standings : (library : Library) (published : List Change) (ss : List Standing) (hss : List (List HandIn)) (css : List (List ℕ)) → length ss ≡ length hss → length css ≡ length hss → length (standings_in library published ss hss css) ≡ length ss
+length-standings library published [] [] css same counts = refl
+length-standings library published [] (hs ∷ hss) css same counts = absurd (omega (arith, same))
+length-standings library published (s ∷ ss) [] css same counts = absurd (omega (arith, same))
+length-standings library published (s ∷ ss) (hs ∷ hss) [] same counts = absurd (omega (arith, counts))
+length-standings library published (s ∷ ss) (hs ∷ hss) (cs ∷ css) same counts = omega (arith, length-standings library published ss hss css (omega (arith, same)) (omega (arith, counts)))
 
 pub taken-front : (xs ys : List Change) → AllTaken (xs ++ ys) → AllTaken xs
 taken-front xs ys taken = taken-from empty xs ys taken

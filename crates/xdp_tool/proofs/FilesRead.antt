@@ -125,6 +125,9 @@ reads-front t t' names more e reads =
 pub reads-as : {A B E : Type 0} (t t' : Told) (names : List (List ℕ)) (x : A) (y : B) → Reads t t' names (let r : Result A E = Ok x in r) → Reads t t' names (let r : Result B E = Ok y in r)
 reads-as t t' names x y reads = record { asked = reads.asked; whole = reads.whole; unmade = reads.unmade; earlier = reads.earlier }
 
+pub reads-err : {A B E : Type 0} (t t' : Told) (names : List (List ℕ)) (e : E) → Reads t t' names (let r : Result A E = Err e in r) → Reads t t' names (let r : Result B E = Err e in r)
+reads-err t t' names e reads = record { asked = reads.asked; whole = tt; unmade = reads.unmade; earlier = reads.earlier }
+
 pub reads-failed : {A B E : Type 0} (t t' : Told) (names : List (List ℕ)) (x : A) (e : E) → Reads t t' names (let r : Result A E = Ok x in r) → Reads t t' names (let r : Result B E = Err e in r)
 reads-failed t t' names x e reads = record { asked = reads.asked; whole = tt; unmade = reads.unmade; earlier = reads.earlier }
 

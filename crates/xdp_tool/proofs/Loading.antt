@@ -16,7 +16,7 @@ use Rattle.xdp_tool.specs.Objects.{IsLoadEnd, IsObject}
 use Rattle.xdp_tool.specs.Outcome.{AreLoaded, IsLoaded, IsPrepared, is_small, with_objects}
 use Rattle.xdp_tool.specs.Touched.{Reads}
 use Rattle.xdp_tool.specs.declared.ending.Ending.{Ending}
-use Rattle.xdp_tool.specs.declared.ending.Ending.TheVariants.{Done, Usage, BadScript, Fault, OutOfMemory, Limit}
+use Rattle.xdp_tool.specs.declared.ending.Ending.TheVariants.{Done, Usage, BadScript, Fault, OutOfMemory, Limit, TraceDiffers}
 use Rattle.xdp_tool.specs.declared.ending.LimitName.TheVariants as limit
 use Rattle.xdp_tool.specs.declared.prepared.Prepared.{Prepared}
 use Rattle.xdp_tool.proofs.FilesRead.{reads-as, reads-both, reads-front}
@@ -143,9 +143,25 @@ not-loaded content script place name (Limit limit.Object) prepared few here know
 not-loaded content script place name (Limit limit.Objects) prepared few here known large is = absurd known
 not-loaded content script place name (Limit limit.Script) prepared few here known large is = absurd known
 not-loaded content script place name (Limit limit.Lines) prepared few here known large is = absurd known
+not-loaded content script place name (Limit limit.Trace) prepared few here known large is = absurd known
 not-loaded content script place name (Done refused) prepared few here known large is = absurd known
 not-loaded content script place name Usage prepared few here known large is = absurd known
 not-loaded content script place name (BadScript line rule) prepared few here known large is = absurd known
+not-loaded content script place name (TraceDiffers line) prepared few here known large is = absurd known
+
+-- the same of the script itself
+pub not-loadable : (content : List ℕ → List ℕ) (script : Script) (place : ℕ) (name : List ℕ) (ending : Ending) → nat_lt 16 (length script.objects) ≡ false → slice_get script.objects place ≡ Some name → IsLoadEnd ending → (ending ≡ Limit limit.Object → is_small content name ≡ false) → Gives {A = Script} (Err ending) (with_objects content script)
+not-loadable content script place name Fault few here known large = tt
+not-loadable content script place name OutOfMemory few here known large = tt
+not-loadable content script place name (Limit limit.Object) few here known large = large-one content script place name few here (large refl)
+not-loadable content script place name (Limit limit.Objects) few here known large = absurd known
+not-loadable content script place name (Limit limit.Script) few here known large = absurd known
+not-loadable content script place name (Limit limit.Lines) few here known large = absurd known
+not-loadable content script place name (Limit limit.Trace) few here known large = absurd known
+not-loadable content script place name (Done refused) few here known large = absurd known
+not-loadable content script place name Usage few here known large = absurd known
+not-loadable content script place name (BadScript line rule) few here known large = absurd known
+not-loadable content script place name (TraceDiffers line) few here known large = absurd known
 
 -- one file more, to its end
 pub reads-more : (t t₁ t₂ : Told) (names : List (List ℕ)) (place : ℕ) (name : List ℕ) → slice_get names place ≡ Some name → IsReadUpTo t t₁ (take place names) → Reads {A = Unit {0}} {E = Ending} t₁ t₂ (name ∷ []) (Ok tt) → IsReadUpTo t t₂ (take (place + 1) names)

@@ -1,5 +1,5 @@
 -- One file that is made, written as a sink and closed: what that changes of all files.
-use Rattle.std.proofs.Common.{◌≡◌, ◌⊎◌, ℕ, Bool, true, false, List, [], ◌∷◌, ◌++◌, length, take, Ok, Err, Some, None, append-nil, refl, sym, ap, ◌∙◌, not, unwrap_or, IsTrue, inl, inr, Option, IfSome, OnOk, Result}
+use Rattle.std.proofs.Common.{◌≡◌, ◌⊎◌, ℕ, ◌+◌, ◌<◌, ◌==◌, zero, suc, Bool, true, false, List, [], ◌∷◌, ◌++◌, length, length-append, take, Ok, Err, Some, None, append-nil, append_assoc, refl, sym, ap, ◌∙◌, arith, not, unwrap_or, IsTrue, inl, inr, Option, IfSome, OnOk, Result}
 use Rattle.std.proofs.lemmas.Bool.{true≢false, false≢true}
 use Rattle.std.specs.Cmp.Lexicographic.{pointwise}
 use Rattle.std.specs.Prelude.{nat_eq}
@@ -11,17 +11,17 @@ use Rattle.xio.specs.Told.{Told, after_make, set_named, told_beside}
 use Rattle.xio.specs.declared.files.FileFault.TheVariants.{Failed}
 use Rattle.xdp_tool.specs.Ending.{status_of}
 use Rattle.command_line.specs.Names.{Names}
-use Rattle.script_text.specs.declared.script.Script.{Script}
 use Rattle.xdp_tool.specs.Headline.{is_end, made_name, trace_name}
-use Rattle.xdp_tool.specs.Outcome.{IsPrepared}
+use Rattle.xdp_tool.specs.Outcome.{IsPerformance, Reading}
 use Rattle.xdp_tool.specs.declared.ending.Ending.{Ending}
-use Rattle.xdp_tool.specs.declared.prepared.Prepared.{Prepared}
+use Rattle.xdp_tool.specs.declared.performance.Performance.{Performance}
 use Rattle.xdp_tool.specs.Order.{AppendsWhole}
+use Rattle.xdp_tool.specs.PhaseEnd.{OnEnded}
 use Rattle.xdp_tool.specs.Run.{ending_of}
 use Rattle.xdp_tool.specs.Sinks.{FillsFile, HasBegun, IsTracedUpTo, LeavesTrace}
 use Rattle.xdp_tool.specs.Touched.{IsUnmade, Makes, Reads, Touches, calls_for, is_other}
 use Rattle.xdp_tool.specs.declared.perform.Stop.{Stop}
-use Rattle.xdp_tool.specs.declared.perform.Stop.TheVariants.{Fault, OutOfMemory}
+use Rattle.xdp_tool.specs.declared.perform.Stop.TheVariants.{Differs, Fault, OutOfMemory}
 
 set_named-other : {V : Type 0} (f : List ℕ → V) (name : List ℕ) (v : V) (other : List ℕ) → is_other (Some name) other ≡ true → set_named f name v other ≡ f other
 set_named-other f name v other apart = by_case (pointwise nat_eq other name) refl
@@ -110,23 +110,38 @@ begun_made t t₁ t₂ t₃ first name n n₂ made file same₂ last whole =
     let empty : t₁.content name ≡ [] = ap (λ (u : Told). u.content name) made ∙ set_named-here t.content name [] in
     (made-after t t₁ t₂ t₃ name n made same last, rw (ap (λ (u : Told). u.content name) last) (rw (own, empty, file, own') at whole))
 
--- all of it, where the run came to its end
-pub fills-made : {A E : Type 0} (t t₁ t₂ t₃ : Told) (text name : List ℕ) (n n₂ : ℕ) (result : Result A E) → t₁ ≡ after_make t name (Ok n) → n₂ ≡ n → told_beside t₂ n₂ ≡ told_beside t₁ n → t₃ ≡ t₂ → AppendsPrefix (t₁.content (t₁.name_of n)) (t₂.content (t₂.name_of n₂)) text → OnOk result (t₂.content (t₂.name_of n₂) ≡ t₁.content (t₁.name_of n) ++ text) → OnOk result (t₂.flushed (t₂.name_of n₂) ≡ length (t₂.content (t₂.name_of n₂))) → FillsFile t t₃ text result name
-fills-made t t₁ t₂ t₃ text name n n₂ (Err e) made file same₂ last front whole all =
-    record { front = traced_made t t₁ t₂ t₃ text name n n₂ made file same₂ last front; whole = tt }
-fills-made t t₁ t₂ t₃ text name n n₂ (Ok x) made file same₂ last front whole all =
+made-content : (t t₁ t₂ t₃ : Told) (text name : List ℕ) (n n₂ : ℕ) → t₁ ≡ after_make t name (Ok n) → n₂ ≡ n → told_beside t₂ n₂ ≡ told_beside t₁ n → t₃ ≡ t₂ → t₂.content (t₂.name_of n₂) ≡ t₁.content (t₁.name_of n) ++ text → t₃.content name ≡ text
+made-content t t₁ t₂ t₃ text name n n₂ made file same₂ last whole =
     let same : told_beside t₂ n ≡ told_beside t₁ n = rw file at same₂ in
     let own : t₁.name_of n ≡ name = ap (λ (u : Told). u.name_of n) made ∙ set_at-same t.name_of n name in
     let own' : t₂.name_of n ≡ name = ap (λ (u : Told). u.name_of n) same ∙ own in
     let empty : t₁.content name ≡ [] = ap (λ (u : Told). u.content name) made ∙ set_named-here t.content name [] in
-    let is : t₂.content name ≡ text = rw (own, empty, file, own') at whole in
+    ap (λ (u : Told). u.content name) last ∙ (rw (own, empty, file, own') at whole)
+
+made-flushed : (t t₁ t₂ t₃ : Told) (text name : List ℕ) (n n₂ : ℕ) → t₁ ≡ after_make t name (Ok n) → n₂ ≡ n → told_beside t₂ n₂ ≡ told_beside t₁ n → t₃ ≡ t₂ → t₃.content name ≡ text → t₂.flushed (t₂.name_of n₂) ≡ length (t₂.content (t₂.name_of n₂)) → t₃.flushed name ≡ length text
+made-flushed t t₁ t₂ t₃ text name n n₂ made file same₂ last is all =
+    let same : told_beside t₂ n ≡ told_beside t₁ n = rw file at same₂ in
+    let own' : t₂.name_of n ≡ name = ap (λ (u : Told). u.name_of n) same ∙ (ap (λ (u : Told). u.name_of n) made ∙ set_at-same t.name_of n name) in
     let flushed : t₂.flushed name ≡ length (t₂.content name) = rw (file, own') at all in
+    ap (λ (u : Told). u.flushed name) last ∙ (flushed ∙ (ap (λ (u : Told). length (u.content name)) (sym last) ∙ ap length is))
+
+-- all of it, where the run came to its end
+pub fills-made : {A : Type 0} (t t₁ t₂ t₃ : Told) (text name : List ℕ) (n n₂ : ℕ) (result : Result A Stop) → t₁ ≡ after_make t name (Ok n) → n₂ ≡ n → told_beside t₂ n₂ ≡ told_beside t₁ n → t₃ ≡ t₂ → AppendsPrefix (t₁.content (t₁.name_of n)) (t₂.content (t₂.name_of n₂)) text → OnEnded result (t₂.content (t₂.name_of n₂) ≡ t₁.content (t₁.name_of n) ++ text) → OnOk result (t₂.flushed (t₂.name_of n₂) ≡ length (t₂.content (t₂.name_of n₂))) → FillsFile t t₃ text result name
+fills-made t t₁ t₂ t₃ text name n n₂ (Err Fault) made file same₂ last front whole all =
+    record { front = traced_made t t₁ t₂ t₃ text name n n₂ made file same₂ last front; content = tt; whole = tt }
+fills-made t t₁ t₂ t₃ text name n n₂ (Err OutOfMemory) made file same₂ last front whole all =
+    record { front = traced_made t t₁ t₂ t₃ text name n n₂ made file same₂ last front; content = tt; whole = tt }
+fills-made t t₁ t₂ t₃ text name n n₂ (Err (Differs line)) made file same₂ last front whole all = record {
+  front = traced_made t t₁ t₂ t₃ text name n n₂ made file same₂ last front;
+  content = made-content t t₁ t₂ t₃ text name n n₂ made file same₂ last whole;
+  whole = tt;
+}
+fills-made t t₁ t₂ t₃ text name n n₂ (Ok x) made file same₂ last front whole all =
+    let is = made-content t t₁ t₂ t₃ text name n n₂ made file same₂ last whole in
     record {
       front = traced_made t t₁ t₂ t₃ text name n n₂ made file same₂ last front;
-      whole = record {
-        content = ap (λ (u : Told). u.content name) last ∙ is;
-        flushed = ap (λ (u : Told). u.flushed name) last ∙ (flushed ∙ ap length is);
-      };
+      content = is;
+      whole = record { content = is; flushed = made-flushed t t₁ t₂ t₃ text name n n₂ made file same₂ last is all };
     }
 
 pub unmade-still : (t : Told) → IsUnmade t t
@@ -146,6 +161,10 @@ leaves-trace t t₁ t₂ text performed None before fills = tt
 leaves-trace t t₁ t₂ text (Ok refused) (Some name) before fills = record {
   front = traced-since t t₁ t₂ text name (unmade-content t t₁ name before) fills.front;
   whole = λ ended. fills.whole;
+}
+leaves-trace t t₁ t₂ text (Err (Differs line)) (Some name) before fills = record {
+  front = traced-since t t₁ t₂ text name (unmade-content t t₁ name before) fills.front;
+  whole = λ ended. absurd (false≢true ended);
 }
 leaves-trace t t₁ t₂ text (Err Fault) (Some name) before fills = record {
   front = traced-since t t₁ t₂ text name (unmade-content t t₁ name before) fills.front;
@@ -206,6 +225,6 @@ touches-nothing t names made = record {
 }
 
 -- a script was prepared, so the trace's file may be made
-pub touches-wanted : (t t₂ : Told) (asked : List (List ℕ)) (content : List ℕ → List ℕ) (names : Result Names Ending) (read : Result Script Ending) (prepared : Prepared) → IsPrepared content read (Ok prepared) → Touches t t₂ asked (trace_name names) → Touches t t₂ asked (made_name names read)
-touches-wanted t t₂ asked content names (Ok script) prepared is touches = touches
-touches-wanted t t₂ asked content names (Err e) prepared is touches = absurd cc
+pub touches-wanted : (t t₂ : Told) (asked : List (List ℕ)) (content : List ℕ → List ℕ) (names : Result Names Ending) (read : Result Reading Ending) (performed : Performance) → IsPerformance content read (Ok performed) → Touches t t₂ asked (trace_name names) → Touches t t₂ asked (made_name names read)
+touches-wanted t t₂ asked content names (Ok reading) performed is touches = touches
+touches-wanted t t₂ asked content names (Err e) performed is touches = absurd cc

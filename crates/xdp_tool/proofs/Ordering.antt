@@ -7,18 +7,18 @@ use Rattle.xio.specs.Prefixes.{AppendsPrefix}
 use Rattle.xdp_state.specs.declared.library.Library.{Library}
 use Rattle.xdp_state.specs.Sums.{Past, no_past}
 use Rattle.xdp_state.specs.Standing.{Standing}
-use Rattle.xdp_tool.proofs.Running.{Grows, Ran, ended-put, needs_in, out-front, out-grows, prefix-whole, ran-none, stopped-trace, text_of, trace-split, traces-for-front, traces-grow, traces-none}
+use Rattle.xdp_tool.proofs.Running.{Grows, Ran, ended-put, out-front, out-grows, prefix-whole, ran-none, stopped-trace, text_of, trace-split, traces-for-front, traces-grow, traces-none}
 use Rattle.xdp_tool.specs.Order.{AppendsWhole}
 use Rattle.xdp_tool.specs.PhaseEnd.{EndsChoices, EndsText}
 use Rattle.xdp_tool.specs.Plan.{Phase}
 use Rattle.xdp_tool.specs.Queues.{queues_of}
-use Rattle.xdp_tool.specs.Ran.{at_hand_in}
+use Rattle.xdp_tool.specs.Ran.{carried_by}
 use Rattle.script_text.specs.Trace.{first_line}
 use Rattle.xdp_tool.specs.Trace.{traced_text}
 use Rattle.xdp_tool.specs.Traversed.{out_for, standings_of, trace_for, traces_for}
 use Rattle.xdp_tool.specs.Walked.{Begun, no_begun}
 use Rattle.xdp_tool.specs.declared.perform.Stop.{Stop}
-use Rattle.xdp_tool.specs.declared.perform.Stop.TheVariants.{Fault, OutOfMemory}
+use Rattle.xdp_tool.specs.declared.perform.Stop.TheVariants.{Fault, OutOfMemory, Differs}
 
 -- Of so many phases the earlier sink has the texts whole, and the later one no more than the front of its own. Sinks are
 -- compared two by two, in the order in which they are written.
@@ -38,6 +38,10 @@ end-ordered first second choices now counts text more (Ok u) old held new had ke
     (ended-put first choices now counts text (Ok u) old held new grows is was put)
     (prefix-whole had last (second now) (ended-put second choices now counts more (Ok u) had kept last grow is were puts))
 end-ordered first second choices now counts text more (Err OutOfMemory) old held new had kept last grows grow is was put were puts order =
+    whole-ordered first second now old new had last
+    (put ∙ (was ∙ ap (λ c. old ++ first c) (sym is)))
+    (prefix-whole had last (second now) (puts ∙ (were ∙ ap (λ c. had ++ second c) (sym is))))
+end-ordered first second choices now counts text more (Err (Differs line)) old held new had kept last grows grow is was put were puts order =
     whole-ordered first second now old new had last
     (put ∙ (was ∙ ap (λ c. old ++ first c) (sym is)))
     (prefix-whole had last (second now) (puts ∙ (were ∙ ap (λ c. had ++ second c) (sym is))))
@@ -65,11 +69,11 @@ pub none-ordered : (traced : Bool) (library : Library) (phases : List Phase) (ch
 none-ordered traced library phases choices out trace none =
     rw none (stopped-ordered traced library [] no_begun (no_past (length (queues_of library.interfaces))) (standings_of (queues_of library.interfaces)) [] phases out out trace trace (ran-none library) (sym (append-nil out)) (traces-none traced library trace))
 
-pub ended-ordered : (traced : Bool) (library : Library) (done : List Phase) (begun : Begun) (past : Past) (standings : List Standing) (choices now : List (List (List ℕ))) (phase : Phase) (rest : List Phase) (result : Result Unit Stop) (old_out held out old_trace had trace : List ℕ) → Ran library done begun past standings choices → EndsChoices result choices now (needs_in phase) → held ≡ old_out ++ out_for library done choices → EndsText result held out (text_of library past standings phase) → had ≡ old_trace ++ traces_for traced library done choices → EndsText result had trace (traced_text traced (length choices) phase.barrier (at_hand_in library standings phase)) → (out ≡ held ++ text_of library past standings phase) ⊎ (trace ≡ had) → Ordered (out_for library (done ++ phase ∷ rest)) (traces_for traced library (done ++ phase ∷ rest)) now old_out out old_trace trace
-ended-ordered traced library done begun past standings choices now phase rest result old_out held out old_trace had trace ran counts is text was traces order =
-    end-ordered (out_for library (done ++ phase ∷ rest)) (traces_for traced library (done ++ phase ∷ rest)) choices now (needs_in phase)
-    (text_of library past standings phase) (traced_text traced (length choices) phase.barrier (at_hand_in library standings phase)) result old_out held out old_trace had trace
-    (out-grows library done begun past standings choices phase rest ran) (traces-grow traced library done begun past standings choices phase rest ran) counts
+pub ended-ordered : (traced : Bool) (library : Library) (done : List Phase) (begun : Begun) (past : Past) (standings : List Standing) (choices now : List (List (List ℕ))) (phase : Phase) (counts : List (List ℕ)) (rest : List Phase) (result : Result Unit Stop) (old_out held out old_trace had trace : List ℕ) → Ran library done begun past standings choices → EndsChoices result choices now counts → held ≡ old_out ++ out_for library done choices → EndsText result held out (text_of library past standings phase counts) → had ≡ old_trace ++ traces_for traced library done choices → EndsText result had trace (traced_text traced (length choices) phase.barrier (carried_by library standings phase counts)) → (out ≡ held ++ text_of library past standings phase counts) ⊎ (trace ≡ had) → Ordered (out_for library (done ++ phase ∷ rest)) (traces_for traced library (done ++ phase ∷ rest)) now old_out out old_trace trace
+ended-ordered traced library done begun past standings choices now phase counts rest result old_out held out old_trace had trace ran chosen is text was traces order =
+    end-ordered (out_for library (done ++ phase ∷ rest)) (traces_for traced library (done ++ phase ∷ rest)) choices now counts
+    (text_of library past standings phase counts) (traced_text traced (length choices) phase.barrier (carried_by library standings phase counts)) result old_out held out old_trace had trace
+    (out-grows library done begun past standings choices phase counts rest ran) (traces-grow traced library done begun past standings choices phase counts rest ran) chosen
     (is ∙ ap (λ t. old_out ++ t) (sym (out-front library done (phase ∷ rest) choices ran.covered))) text
     (was ∙ ap (λ t. old_trace ++ t) (sym (traces-for-front traced library done (phase ∷ rest) choices ran.covered))) traces order
 

@@ -15,6 +15,7 @@ gives-err (ending.BadScript line rule) wanted is = is
 gives-err ending.Fault wanted is = tt
 gives-err ending.OutOfMemory wanted is = tt
 gives-err (ending.Limit name) wanted is = is
+gives-err (ending.TraceDiffers line) wanted is = is
 
 -- a script that wasn't read
 ends : (content : List ℕ → List ℕ) (name : List ℕ) (made : Option (List ℕ)) (e : Ending) (script : Result Prepared Ending) → script_at (content name) ≡ Err e → IsPrepared content (script_in content name made) script → script ≡ Err e
@@ -28,6 +29,7 @@ read-early content name made (ending.BadScript line rule) script read is = ends 
 read-early content name made ending.Fault script read is = tt
 read-early content name made ending.OutOfMemory script read is = tt
 read-early content name made (ending.Limit limit) script read is = ends content name made _ script read is
+read-early content name made (ending.TraceDiffers line) script read is = ends content name made _ script read is
 
 -- one whose line names the file that is made
 pub clash-early : (content : List ℕ → List ℕ) (name : List ℕ) (made : Option (List ℕ)) (e : Ending) (s : Script) (script : Result Prepared Ending) → script_at (content name) ≡ Ok s → without_clash made s ≡ Err e → IsPrepared content (script_in content name made) script → Gives (Err e) script
@@ -37,3 +39,21 @@ clash-early content name made e s script read clash is = gives-err e script (rw 
 pub script-in-is : (content : List ℕ → List ℕ) (name : List ℕ) (made : Option (List ℕ)) (s : Script) → script_at (content name) ≡ Ok s → without_clash made s ≡ Ok s → script_in content name made ≡ with_objects content s
 unfolding script_in
 script-in-is content name made s read kept = rw (read, kept) refl
+
+-- the same of the script itself
+not-read : (content : List ℕ → List ℕ) (name : List ℕ) (made : Option (List ℕ)) (e : Ending) → script_at (content name) ≡ Err e → script_in content name made ≡ Err e
+unfolding script_in
+not-read content name made e read = rw read refl
+
+pub read-ended : (content : List ℕ → List ℕ) (name : List ℕ) (made : Option (List ℕ)) (e : Ending) → Gives (Err e) (script_at (content name)) → Gives (Err e) (script_in content name made)
+read-ended content name made (ending.Done refused) read = not-read content name made _ read
+read-ended content name made ending.Usage read = not-read content name made _ read
+read-ended content name made (ending.BadScript line rule) read = not-read content name made _ read
+read-ended content name made ending.Fault read = tt
+read-ended content name made ending.OutOfMemory read = tt
+read-ended content name made (ending.Limit limit) read = not-read content name made _ read
+read-ended content name made (ending.TraceDiffers line) read = not-read content name made _ read
+
+pub clash-ended : (content : List ℕ → List ℕ) (name : List ℕ) (made : Option (List ℕ)) (e : Ending) (s : Script) → script_at (content name) ≡ Ok s → without_clash made s ≡ Err e → Gives (Err e) (script_in content name made)
+unfolding script_in
+clash-ended content name made e s read clash = gives-err e (script_in content name made) (rw (read, clash) refl)

@@ -10,13 +10,14 @@ use Rattle.xdp_tool.proofs.Running.{Steps}
 use Rattle.xdp_tool.proofs.Walking.{rising-low}
 use Rattle.xdp_tool.specs.PhaseEnd.{PutsText}
 use Rattle.xdp_tool.specs.Plan.{Phase, closed, next_of, phases_from}
+use Rattle.xdp_tool.specs.Ran.{AreLegalOf, lasts_after}
 use Rattle.xdp_tool.specs.Walked.{Begun, IsAt, phases_behind}
 use Rattle.xdp_tool.specs.declared.perform.Stop.{Stop}
 use Rattle.xdp_tool.specs.declared.walk.Walk.{Walk}
 
--- what a walk says of its phase, whatever ends it
-pub steps-of : (walk : Walk) (begun : Begun) (phase : Phase) (barrier : Option ℕ) → IsAt walk begun phase → Steps begun (closed barrier phase)
-steps-of walk begun phase barrier at = record { grown = rising-low _ phase.items _ at.rising; steady = at.steady }
+-- what is known of a phase that was walked and carried, whatever ends it
+pub steps-of : (walk : Walk) (begun : Begun) (phase : Phase) (barrier : Option ℕ) (choices : List (List (List ℕ))) (counts : List (List ℕ)) → IsAt walk begun phase → AreLegalOf (lasts_after [] choices) phase counts → Steps begun (closed barrier phase) choices counts
+steps-of walk begun phase barrier choices counts at legal = record { grown = rising-low _ phase.items _ at.rising; legal = legal }
 
 -- the plan, once a phase has ended
 pub plan-ended : (library : Library) (plan done : List Phase) (first phase : Phase) (barrier : Option ℕ) (lines left : List Line) → plan ≡ done ++ phases_from library first lines → phases_from library first lines ≡ closed barrier phase ∷ phases_behind library barrier phase left → plan ≡ done ++ closed barrier phase ∷ phases_behind library barrier phase left
@@ -55,3 +56,11 @@ plan-last library plan done phase (Some line) left is whole = absurd cc
 pub plan-more : (library : Library) (plan done : List Phase) (phase : Phase) (barrier : Option ℕ) (left : List Line) → is_none barrier ≡ false → plan ≡ done ++ closed barrier phase ∷ phases_behind library barrier phase left → plan ≡ (done ++ closed barrier phase ∷ []) ++ phases_from library (next_of library phase) left
 plan-more library plan done phase None left is whole = absurd cc
 plan-more library plan done phase (Some line) left is whole = plan-next library plan done phase line left whole
+
+pub behind-last : (library : Library) (phase : Phase) (barrier : Option ℕ) (left : List Line) → is_none barrier ≡ true → phases_behind library barrier phase left ≡ []
+behind-last library phase None left is = refl
+behind-last library phase (Some line) left is = absurd cc
+
+pub behind-more : (library : Library) (phase : Phase) (barrier : Option ℕ) (left : List Line) → is_none barrier ≡ false → phases_behind library barrier phase left ≡ phases_from library (next_of library phase) left
+behind-more library phase None left is = absurd cc
+behind-more library phase (Some line) left is = refl

@@ -1,7 +1,6 @@
 -- How a carrier stands between two phases, and what it makes of a phase.
-use Rattle.std.specs.Prelude.{◌≡◌, ℕ, ◌+◌, zero, suc, List, [], ◌∷◌, ◌++◌, length, drop, ⊤}
+use Rattle.std.specs.Prelude.{◌≡◌, ℕ, ◌+◌, ◌≤◌, zero, suc, List, [], ◌∷◌, ◌++◌, length, drop, ⊤}
 use Rattle.xdp_state.specs.Book.{after}
-use Rattle.xdp_state.specs.Legal.{AreLegalCounts}
 use Rattle.xdp_state.specs.Standing.{Standing}
 use Rattle.xdp_state.specs.Traversals.{carried_from, carried_in, standing_from, standings_in}
 use Rattle.xdp_state.specs.Work.{needs_of}
@@ -23,14 +22,20 @@ pub record StandsAt (carrier : Carrier) (published : List Change) (standings : L
   pub state : carrier.state ≡ after published
   pub processors : AreIdle carrier.processors.items standings
 
+-- the counts of the first packets are legal, from the last count before
+abbrev pub AreLegalFront : ℕ → ℕ → List ℕ → List ℕ → Type 0
+AreLegalFront last published (need ∷ needs) (count ∷ counts) =
+    (last ≤ count) × (need ≤ count) × (count ≤ published) × AreLegalFront count published needs counts
+AreLegalFront last published _ _ = ⊤
+
 -- by processor: the counts are legal from one number to another
 abbrev pub AreDue : ℕ → ℕ → List Standing → List (List HandIn) → List (List ℕ) → Type 0
 AreDue low high [] [] [] = ⊤
 AreDue low high (standing ∷ standings) (hs ∷ hand_ins) (counts ∷ others) =
-    AreLegalCounts low high (needs_of hs) counts × AreDue low high standings hand_ins others
+    AreLegalFront low high (needs_of hs) counts × AreDue low high standings hand_ins others
 AreDue low high _ _ _ = ⊥
 
--- each processor carried its packets with these counts
+-- each processor carried its packets with these counts, as far as they go
 pub record Carries (library : Library) (carrier : Carrier) (carried : List (List Carried)) (published : List Change) (standings : List Standing)
     (hand_ins : List (List HandIn)) (counts : List (List ℕ)) : Type 0 where
   pub lists : carried ≡ carried_in library published standings hand_ins counts
@@ -59,7 +64,7 @@ pub record IsUpTo (library : Library) (published : List Change) (standing : Stan
       ++ carried_from library published processor.own.standing (drop (length processor.carried) hs) (drop (length processor.carried) counts)
   pub stands : standing_from library published standing hs counts
       ≡ standing_from library published processor.own.standing (drop (length processor.carried) hs) (drop (length processor.carried) counts)
-  pub legal : AreLegalCounts now (length published) (needs_of (drop (length processor.carried) hs))
+  pub legal : AreLegalFront now (length published) (needs_of (drop (length processor.carried) hs))
       (drop (length processor.carried) counts)
 
 -- by processor; the first so many are one number further

@@ -11,6 +11,8 @@ pub mod Plan
 pub mod QueueView
 pub mod Queues
 pub mod Ran
+pub mod Replay
+pub mod Replaying
 pub mod Run
 pub mod Runnable
 pub mod Sinks
@@ -18,6 +20,7 @@ pub mod Table
 pub mod Touched
 pub mod Texts
 pub mod Trace
+pub mod TraceOf
 pub mod Traversed
 pub mod Turn
 pub mod Walked

@@ -1,10 +1,11 @@
 -- How a run stands between two lines, at a phase's end, and what a phase leaves.
-use Rattle.std.specs.Prelude.{◌≡◌, ℕ, ◌≤◌, List, ◌∷◌, [], length, drop, Option}
+use Rattle.std.specs.Prelude.{◌≡◌, ℕ, ◌≤◌, List, ◌∷◌, [], length, drop, Option, ⊤}
 use Rattle.script_text.specs.declared.what.Line.{Line}
 use Rattle.xdp_state.specs.Book.{after}
+use Rattle.xdp_state.specs.Legal.{AreLegalFrom, lasts_of}
 use Rattle.xdp_state.specs.Sums.{Past, past_with}
 use Rattle.xdp_state.specs.Standing.{Standing}
-use Rattle.xdp_state.specs.Traversals.{carried_in}
+use Rattle.xdp_state.specs.Traversals.{carried_in, standings_in}
 use Rattle.xdp_state.specs.Work.{all_needs}
 use Rattle.xdp_state.specs.declared.carried.Carried.{Carried}
 use Rattle.xdp_state.specs.declared.change.Change.{Change}
@@ -60,7 +61,30 @@ pub record Ends (run : Run) (begun : Begun) (past : Past) (standings : List Stan
   pub phases : phases_from run.walk.script.now.library first lines ≡ closed barrier phase
       ∷ phases_behind run.walk.script.now.library barrier phase (drop run.walk.next run.walk.script.now.lines)
 
--- the packets of a phase, each carried with as many publications as there were at its hand-in
-abbrev pub at_hand_in : Library → List Standing → Phase → List (List Carried)
-at_hand_in library standings phase =
-    carried_in library phase.work.published standings phase.work.hand_ins (all_needs phase.work.hand_ins)
+-- the packets of a phase, carried with these counts
+abbrev pub carried_by : Library → List Standing → Phase → List (List ℕ) → List (List Carried)
+carried_by library standings phase counts = carried_in library phase.work.published standings phase.work.hand_ins counts
+
+-- where the processors stand behind it
+abbrev pub standings_by : Library → List Standing → Phase → List (List ℕ) → List Standing
+standings_by library standings phase counts = standings_in library phase.work.published standings phase.work.hand_ins counts
+
+-- the counts of a phase are legal behind these last counts
+abbrev pub AreLegalOf : List ℕ → Phase → List (List ℕ) → Type 0
+AreLegalOf lasts phase counts = AreLegalFrom lasts (length phase.work.published) (all_needs phase.work.hand_ins) counts
+
+-- each of the counts is at most this one
+abbrev pub AllWithin : ℕ → List ℕ → Type 0
+AllWithin most [] = ⊤
+AllWithin most (n ∷ ns) = (n ≤ most) × AllWithin most ns
+
+-- the counts of the last phase of some choices
+abbrev pub last_counts : List (List (List ℕ)) → List (List ℕ)
+last_counts [] = []
+last_counts (counts ∷ []) = counts
+last_counts (counts ∷ next ∷ more) = last_counts (next ∷ more)
+
+-- the last counts after some phases
+abbrev pub lasts_after : List ℕ → List (List (List ℕ)) → List ℕ
+lasts_after lasts [] = lasts
+lasts_after lasts (counts ∷ choices) = lasts_after (lasts_of lasts counts) choices

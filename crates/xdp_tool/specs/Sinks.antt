@@ -8,10 +8,13 @@ use Rattle.xdp_state.specs.Work.{plan_of}
 use Rattle.xdp_state.specs.declared.library.Library.{Library}
 use Rattle.xdp_tool.specs.Headline.{is_decided, is_end}
 use Rattle.xdp_tool.specs.Order.{AppendsWhole}
-use Rattle.xdp_tool.specs.Plan.{Phase, has_refusal, works_of}
+use Rattle.xdp_tool.specs.PhaseEnd.{OnEnded}
+use Rattle.xdp_tool.specs.Plan.{Phase, has_refusal, plan, works_of}
+use Rattle.xdp_tool.specs.Replaying.{IsReplayedTo}
 use Rattle.script_text.specs.Trace.{first_line}
 use Rattle.xdp_tool.specs.Traversed.{out_for, trace_for}
 use Rattle.xdp_tool.specs.declared.perform.Stop.{Stop}
+use Rattle.xdp_tool.specs.declared.performance.Performance.{Performance}
 
 -- a count of faults rose, or stands at the last value of its type
 abbrev pub Rises : {S : Type 0} → (S → ℕ) → S → S → Type 0
@@ -26,10 +29,10 @@ pub record KeepsSink {S K : Type 0} (faults : S → ℕ) (setting : S → K) (ol
   pub later : faults old ≤ faults new
   pub same_setting : setting new ≡ setting old
 
--- The front of the text stands behind what a sink held; at `Ok` all of it does, and all is flushed.
-pub record FillsSink {S A E : Type 0} (held : S → List ℕ) (flushed : S → ℕ) (old new : S) (text : List ℕ) (result : Result A E) : Type 0 where
+-- The front of the text stands behind what a sink held; all of it does at `Ok`, where all is flushed, and where a trace differs.
+pub record FillsSink {S A : Type 0} (held : S → List ℕ) (flushed : S → ℕ) (old new : S) (text : List ℕ) (result : Result A Stop) : Type 0 where
   pub front : AppendsPrefix (held old) (held new) text
-  pub whole : OnOk result (held new ≡ held old ++ text)
+  pub whole : OnEnded result (held new ≡ held old ++ text)
   pub all_flushed : OnOk result (flushed new ≡ length (held new))
 
 -- the file is as it was, or it was made and holds the front of its text
@@ -41,9 +44,10 @@ pub record IsTraced (new : Told) (text name : List ℕ) : Type 0 where
   pub content : new.content name ≡ text
   pub flushed : new.flushed name ≡ length text
 
--- the file holds no more than the front of its text; at `Ok` all of it, flushed
-pub record FillsFile {A E : Type 0} (old new : Told) (text : List ℕ) (result : Result A E) (name : List ℕ) : Type 0 where
+-- the file holds no more than the front of its text; all of it at `Ok`, where it is flushed, and where a trace differs
+pub record FillsFile {A : Type 0} (old new : Told) (text : List ℕ) (result : Result A Stop) (name : List ℕ) : Type 0 where
   pub front : IsTracedUpTo old new text name
+  pub content : OnEnded result (new.content name ≡ text)
   pub whole : OnOk result (IsTraced new text name)
 
 -- no phase is covered, and out, where it tells, is as it was
@@ -61,11 +65,13 @@ IsOrdered traced library phases choices old_out out IsFront =
     (ended : ℕ) × AppendsWhole old_out out (out_for library phases (take ended choices))
     × IsFront (trace_for traced library phases (take ended choices))
 
--- The choices are legal for the phases that they cover; at `Ok` they cover all, and it says whether a command was refused.
-pub record Performs (phases : List Phase) (choices : List (List (List ℕ))) (result : Result Bool Stop) : Type 0 where
-  pub legal : AreLegal (plan_of (works_of phases)) choices
-  pub covered : OnOk result (length choices ≡ length phases)
-  pub refused : IfOk result (λ refused. refused ≡ has_refusal phases)
+-- The choices are legal for the phases that they cover; at `Ok` they cover all, and it says whether a command was refused. A replay
+-- has its choices from the trace.
+pub record Performs (performed : Performance) (choices : List (List (List ℕ))) (result : Result Bool Stop) : Type 0 where
+  pub legal : AreLegal (plan_of (works_of (plan performed.script))) choices
+  pub covered : OnOk result (length choices ≡ length (plan performed.script))
+  pub refused : IfOk result (λ refused. refused ≡ has_refusal (plan performed.script))
+  pub replayed : IsReplayedTo result performed.script.library performed.trace (plan performed.script) choices
 
 -- the same by the status of the run
 pub record LeavesOut {S : Type 0} (held : S → List ℕ) (old new : S) (text : List ℕ) (status : ℕ) : Type 0 where

@@ -18,6 +18,8 @@ pub enum LimitName {
     Objects,
     /// 16,777,216 bytes of an object
     Object,
+    /// 201,326,592 bytes of a trace that is replayed
+    Trace,
 }
 
 /// How a run ends.
@@ -33,6 +35,8 @@ pub enum Ending {
     Fault,
     OutOfMemory,
     Limit(LimitName),
+    /// No run of the script writes this line, from 1, of the trace that is replayed, and it is the first such.
+    TraceDiffers { line: u32 },
 }
 
 impl Ending {
@@ -48,15 +52,16 @@ impl Ending {
             Ending::Fault => 3,
             Ending::OutOfMemory => 4,
             Ending::Limit(_) => 5,
+            Ending::TraceDiffers { .. } => 6,
         }
     }
 
-    /// The script's line that breaks a rule, or 0.
+    /// The script's line that breaks a rule, the trace's line that differs, or 0.
     pub fn line(&self) -> u32
         ensures { result ≡ line_of self.now }
     {
         match self {
-            Ending::BadScript { line, .. } => *line,
+            Ending::BadScript { line, .. } | Ending::TraceDiffers { line } => *line,
             _ => 0,
         }
     }
@@ -79,6 +84,11 @@ impl Ending {
             Ending::Limit(LimitName::Lines) => text.append(b"xdptool: limit lines 65536\n")?,
             Ending::Limit(LimitName::Objects) => text.append(b"xdptool: limit objects 16\n")?,
             Ending::Limit(LimitName::Object) => text.append(b"xdptool: limit object 16777216\n")?,
+            Ending::Limit(LimitName::Trace) => text.append(b"xdptool: limit trace 201326592\n")?,
+            Ending::TraceDiffers { line } => {
+                let said = format!(in alloc; "xdptool: trace line {line} differs\n")?;
+                text.append(said.as_bytes())?;
+            }
         }
         Ok(text)
     }

@@ -3,16 +3,20 @@
 
 mod carrier;
 mod closed;
+mod counts;
 mod early;
 mod ended;
 mod ending;
+mod fronts;
 mod item;
 mod objects;
 mod perform;
+mod performance;
 mod prepare;
 mod prepared;
 mod processor;
 mod queue;
+mod replay;
 mod run;
 mod shown;
 mod table;
@@ -27,4 +31,4 @@ mod words;
 mod write;
 
 pub use ended::Ended;
-pub use tool::run_tool;
+pub use tool::{replay_tool, run_tool};

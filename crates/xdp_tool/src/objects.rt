@@ -42,6 +42,8 @@ pub fn load_objects<F: Files>(
         (with_objects (F.told files.old).content script) (Ok prepared)) }
     ensures only { IsTrue F.tells → (prepared : Result Prepared Ending) → IsPrepared (F.told files.old).content
         (with_objects (F.told files.old).content script) prepared → Gives result prepared }
+    ensures ended { IsTrue F.tells → IfErr result (λ ending. Gives (Err ending)
+        (with_objects (F.told files.old).content script)) }
     ensures runnable { IfOk result runnable.IsRunnable }
     ensures failed { IfErr result (λ ending. is_end (status_of ending) ≡ false) }
     ensures fault { result ≡ Err Ending.Fault → Rises F.read_faults files.old files.new }

@@ -34,6 +34,8 @@ pub fn prepare<F: Files>(
         (script_in (F.told files.old).content name.now (name_of made.entry)) (Ok script)) }
     ensures only { IsTrue F.tells → (script : Result Prepared Ending) → IsPrepared (F.told files.old).content
         (script_in (F.told files.old).content name.now (name_of made.entry)) script → Gives result script }
+    ensures ended { IsTrue F.tells → IfErr result (λ ending. Gives (Err ending)
+        (script_in (F.told files.old).content name.now (name_of made.entry))) }
     ensures runnable { IfOk result IsRunnable }
     ensures failed { IfErr result (λ ending. is_end (status_of ending) ≡ false) }
     ensures fault { result ≡ Err Ending.Fault → Rises F.read_faults files.old files.new }

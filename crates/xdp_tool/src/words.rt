@@ -8,7 +8,7 @@ use crate::ending::Ending;
 use command_line::{FileNames, WordsEnd, file_names};
 use std::alloc::Global;
 
-/// Takes `SCRIPT`, with `--trace FILE` or without. `--capture` and `--replay` aren't taken yet.
+/// Takes `SCRIPT`, `--trace FILE` and `--replay FILE`. `--capture` isn't taken yet.
 #[tactic(auto, unfolding(crate::specs::Words::names_in))]
 pub fn names_in<'a>(alloc: Global, words: &'a [String]) -> Result<FileNames<'a>, Ending>
     ensures names { AreNames result (names_by words.now) }
@@ -20,7 +20,7 @@ pub fn names_in<'a>(alloc: Global, words: &'a [String]) -> Result<FileNames<'a>,
         Err(WordsEnd::NotTaken) => return Err(Ending::Usage),
         Err(WordsEnd::OutOfMemory) => return Err(Ending::OutOfMemory),
     };
-    if names.capture.is_some() || names.replay.is_some() {
+    if names.capture.is_some() {
         return Err(Ending::Usage);
     }
     Ok(names)

@@ -1,11 +1,12 @@
 //! The program `xdptool`: the tool's run over the system's files and streams.
 #![tactic(auto)]
 
+use command_line::wants_replay;
 use std::fs::File;
 use std::process::ExitCode;
 use std::rt::{Env, Files};
 use std::{env, io};
-use xdp_tool::run_tool;
+use xdp_tool::{replay_tool, run_tool};
 use xio::{RealFiles, RealOut, write_all};
 
 /// The words behind the program's name.
@@ -36,6 +37,11 @@ fn main(rt: HostRuntime) -> ExitCode {
     };
     let mut files = RealFiles::new(rt.alloc(), rt);
     let mut out = RealOut::new(rt.stdout());
-    let ended = run_tool(rt.alloc(), words.as_slice(), &mut files, &mut out, &mut err);
+    let words = words.as_slice();
+    let ended = if wants_replay(words) {
+        replay_tool(rt.alloc(), words, &mut files, &mut out, &mut err)
+    } else {
+        run_tool(rt.alloc(), words, &mut files, &mut out, &mut err)
+    };
     ExitCode::from(ended.status)
 }

@@ -1,4 +1,4 @@
-use super::{STEADY, run};
+use super::{STEADY, replay, run};
 use std::test::Fail;
 
 /// A script, and the status, out and trace of its run.
@@ -218,6 +218,15 @@ fn runs_scripts(rt: HostRuntime) -> Result<(), Fail> {
         assert!(rt; run.ended_so(script.status, 0));
         assert!(rt; run.said(script.out, ""));
         assert!(rt; run.traced(Some(script.trace)));
+    }
+    Ok(())
+}
+
+#[test]
+fn replays_its_own_trace(rt: HostRuntime) -> Result<(), Fail> {
+    for script in [ADDRESS, PORT, FRAMES, CHANGES, EMPTY] {
+        let run = replay(rt.alloc(), script.text, script.trace)?;
+        assert!(rt; run.ended_so(script.status, 0) && run.said(script.out, ""));
     }
     Ok(())
 }

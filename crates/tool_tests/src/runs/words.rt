@@ -20,7 +20,7 @@ const USAGE: &str =
     "usage: xdptool [--capture FILE] [--trace FILE] [--replay FILE] [--demo SEED] [SCRIPT]\n";
 
 /// Words, and the status, out, err and trace of the run.
-const WORDS: [(&[&str], u8, &str, &str, Option<&str>); 16] = [
+const WORDS: [(&[&str], u8, &str, &str, Option<&str>); 19] = [
     (&["s"], 0, OUT, "", None),
     (&["--trace", "t", "s"], 0, OUT, "", Some(TRACE)),
     (&["s", "--trace=t"], 0, OUT, "", Some(TRACE)),
@@ -34,9 +34,18 @@ const WORDS: [(&[&str], u8, &str, &str, Option<&str>); 16] = [
     (&["--trace", "-t", "s"], 2, "", USAGE, None),
     (&["--trace", "s", "s"], 2, "", USAGE, None),
     (&["--capture", "t", "s"], 2, "", USAGE, None),
-    (&["--replay", "t", "s"], 2, "", USAGE, None),
+    (&["--replay", "s"], 2, "", USAGE, None),
+    (
+        &["--capture", "t", "--replay", "u", "s"],
+        2,
+        "",
+        USAGE,
+        None,
+    ),
     (&["--trace", "t", "--trace", "u", "s"], 2, "", USAGE, None),
+    (&["--trace", "t", "--replay", "t", "s"], 2, "", USAGE, None),
     (&["--trace", "t", "u"], 3, "", "xdptool: fault\n", None),
+    (&["--replay", "u", "s"], 3, "", "xdptool: fault\n", None),
 ];
 
 #[test]

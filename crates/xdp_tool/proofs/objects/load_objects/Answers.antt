@@ -4,7 +4,7 @@ use Rattle.std.specs.List.{list_all, slice_get}
 use Rattle.std.specs.Prelude.{nat_lt}
 use Rattle.script_text.specs.Words.{is_printable}
 use Rattle.xdp_state.specs.declared.library.Library.{Library}
-use Rattle.xdp_tool.proofs.Loading.{all-loaded, all-only, loads-all, loads-more, loads-none, not-loaded, reads-all, reads-more, reads-stopped}
+use Rattle.xdp_tool.proofs.Loading.{all-loaded, all-only, loads-all, loads-more, loads-none, not-loadable, not-loaded, reads-all, reads-more, reads-stopped}
 use Rattle.xdp_tool.proofs.FilesRead.{reads-start}
 use Rattle.xdp_tool.proofs.Walking.{all-at}
 use Rattle.xdp_tool.specs.Objects.{IsObject}
@@ -55,6 +55,16 @@ returns-in-Err-clause-only g c = λ tells prepared is.
     let few : nat_lt 16 (length names) ≡ false = grind (arith, nat_tests, c.if-len-gt-OBJECTS.false, c.len.ensures) in
     not-loaded (g.F.Files.told c.args.files.now).content c.args.script c.loop-place.place name c.in-Err.ending prepared few here c.in-Err.ensures.known
     (λ e. ap (λ content. is_small content name) (sym (inv.reads tells).unmade.content) ∙ c.in-Err.ensures.small tells (ap Err e)) is
+
+pub returns-in-Err-clause-ended : goal.returns-in-Err-clause-ended
+returns-in-Err-clause-ended g c = λ tells.
+    let inv = c.loop-place.invariant in
+    let names = c.args.script.objects in
+    let name = c.as_slice-name.result.now in
+    let here : slice_get names c.loop-place.place ≡ Some name = rw c.as_slice-name.ensures c.at.ensures in
+    let few : nat_lt 16 (length names) ≡ false = grind (arith, nat_tests, c.if-len-gt-OBJECTS.false, c.len.ensures) in
+    not-loadable (g.F.Files.told c.args.files.now).content c.args.script c.loop-place.place name c.in-Err.ending few here c.in-Err.ensures.known
+    (λ e. ap (λ content. is_small content name) (sym (inv.reads tells).unmade.content) ∙ c.in-Err.ensures.small tells (ap Err e))
 
 pub returns-in-Err-clause-reads : goal.returns-in-Err-clause-reads
 returns-in-Err-clause-reads g c = λ tells.

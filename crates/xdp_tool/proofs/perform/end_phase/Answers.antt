@@ -2,7 +2,7 @@ use Rattle.std.proofs.Common.{ap, refl, sym, length, map, ◌∙◌}
 use Rattle.xdp_tool.specs.Plan.{closed}
 use Rattle.xdp_tool.specs.QueueView.{queue_of}
 use Rattle.xdp_tool.specs.Queues.{queues_of}
-use Rattle.xdp_tool.specs.Ran.{at_hand_in}
+use Rattle.xdp_tool.specs.Ran.{carried_by, last_counts}
 use Rattle.xdp_tool.specs.declared.shown.Shown.{Shown}
 use Rattle.xdp_tool.proofs.perform.end_phase.Goals as goal
 
@@ -18,7 +18,7 @@ write_phase-requires-clause-ready g c =
       begun = s.begun.published;
       phase = closed c.args.barrier s.phase;
       past = s.past;
-      carried = at_hand_in c.args.run.now.walk.script.now.library s.standings s.phase;
+      carried = carried_by c.args.run.now.walk.script.now.library s.standings s.phase (last_counts c.close.new.choices);
       shows = c.in-Ok.ensures.shows s.begun s.past s.standings s.phase s.stands;
       is = c.in-Ok.ensures.closes s.begun s.past s.standings s.phase s.stands;
     }
@@ -45,9 +45,9 @@ returns-in-Ok-write_phase-clause-stands g c = λ begun past standings phase stan
       };
       rests = record {
         earlier = past;
-        carried = at_hand_in c.args.run.now.walk.script.now.library standings phase;
+        carried = carried_by c.args.run.now.walk.script.now.library standings phase (last_counts c.close.new.choices);
         shows = record {
-          rules = c.in-Ok-write_phase.ensures.book begun.published (closed c.args.barrier phase) past (at_hand_in c.args.run.now.walk.script.now.library standings phase) shows is;
+          rules = c.in-Ok-write_phase.ensures.book begun.published (closed c.args.barrier phase) past (carried_by c.args.run.now.walk.script.now.library standings phase (last_counts c.close.new.choices)) shows is;
           sums = ap (λ (s : Shown). s.sums) same ∙ shows.sums;
           queues = ap (λ (s : Shown). map queue_of s.queues) same ∙ (shows.queues ∙ sym (ap (λ (s : Shown). queues_of s.library.now.interfaces) same));
           processors = shows.processors ∙ sym (ap (λ (s : Shown). length (queues_of s.library.now.interfaces)) same);
@@ -61,7 +61,7 @@ returns-in-Ok-write_phase-clause-out g c = λ tells begun past standings phase s
     let walks = c.in-Ok.ensures.walks begun past standings phase stands in
     let shows = c.in-Ok.ensures.shows begun past standings phase stands in
     let is = c.in-Ok.ensures.closes begun past standings phase stands in
-    rw (walks.library, c.close.ensures.same) at (c.in-Ok-write_phase.ensures.out tells begun.published (closed c.args.barrier phase) past (at_hand_in c.args.run.now.walk.script.now.library standings phase) shows is)
+    rw (walks.library, c.close.ensures.same) at (c.in-Ok-write_phase.ensures.out tells begun.published (closed c.args.barrier phase) past (carried_by c.args.run.now.walk.script.now.library standings phase (last_counts c.close.new.choices)) shows is)
 
 pub returns-in-Ok-write_phase-clause-trace : goal.returns-in-Ok-write_phase-clause-trace
 returns-in-Ok-write_phase-clause-trace g c = λ tells begun past standings phase stands.
@@ -74,14 +74,14 @@ returns-in-Ok-write_phase-clause-ordered g c = λ told tells begun past standing
     let walks = c.in-Ok.ensures.walks begun past standings phase stands in
     let shows = c.in-Ok.ensures.shows begun past standings phase stands in
     let is = c.in-Ok.ensures.closes begun past standings phase stands in
-    rw (walks.library, c.close.ensures.same) at (c.in-Ok-write_phase.ensures.ordered told tells begun.published (closed c.args.barrier phase) past (at_hand_in c.args.run.now.walk.script.now.library standings phase) shows is)
+    rw (walks.library, c.close.ensures.same) at (c.in-Ok-write_phase.ensures.ordered told tells begun.published (closed c.args.barrier phase) past (carried_by c.args.run.now.walk.script.now.library standings phase (last_counts c.close.new.choices)) shows is)
 
 pub returns-clause-out : goal.returns-clause-out
 returns-clause-out g c = λ tells begun past standings phase stands.
     let walks = c.in-Ok.ensures.walks begun past standings phase stands in
     let shows = c.in-Ok.ensures.shows begun past standings phase stands in
     let is = c.in-Ok.ensures.closes begun past standings phase stands in
-    rw (walks.library, c.close.ensures.same) at (c.in-Err-write_phase.ensures.out tells begun.published (closed c.args.barrier phase) past (at_hand_in c.args.run.now.walk.script.now.library standings phase) shows is)
+    rw (walks.library, c.close.ensures.same) at (c.in-Err-write_phase.ensures.out tells begun.published (closed c.args.barrier phase) past (carried_by c.args.run.now.walk.script.now.library standings phase (last_counts c.close.new.choices)) shows is)
 
 pub returns-clause-trace : goal.returns-clause-trace
 returns-clause-trace g c = λ tells begun past standings phase stands.
@@ -94,4 +94,4 @@ returns-clause-ordered g c = λ told tells begun past standings phase stands.
     let walks = c.in-Ok.ensures.walks begun past standings phase stands in
     let shows = c.in-Ok.ensures.shows begun past standings phase stands in
     let is = c.in-Ok.ensures.closes begun past standings phase stands in
-    rw (walks.library, c.close.ensures.same) at (c.in-Err-write_phase.ensures.ordered told tells begun.published (closed c.args.barrier phase) past (at_hand_in c.args.run.now.walk.script.now.library standings phase) shows is)
+    rw (walks.library, c.close.ensures.same) at (c.in-Err-write_phase.ensures.ordered told tells begun.published (closed c.args.barrier phase) past (carried_by c.args.run.now.walk.script.now.library standings phase (last_counts c.close.new.choices)) shows is)

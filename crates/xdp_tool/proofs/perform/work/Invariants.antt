@@ -4,6 +4,7 @@ use Rattle.xdp_state.specs.Standing.{Standing}
 use Rattle.xdp_tool.proofs.Running.{Ran}
 use Rattle.xdp_tool.specs.Plan.{Phase, phases_from, plan}
 use Rattle.xdp_tool.specs.Ran.{HasRoom, Stands}
+use Rattle.xdp_tool.specs.Replaying.{IsReplaying}
 use Rattle.xdp_tool.specs.Traversed.{out_for, traces_for}
 use Rattle.xdp_tool.specs.Walked.{Begun}
 use Rattle.xdp_tool.proofs.perform.work.Given as goal
@@ -15,14 +16,16 @@ invariant-phases g l = record {
   past : Past;
   standings : List Standing;
   phase : Phase;
-  ran : Ran l.script.library done begun past standings l.choices;
+  ran : Ran l.performed.script.library done begun past standings l.choices;
   stands : Stands l.run begun past standings phase;
-  plan_is : plan l.script ≡ done ++ phases_from l.script.library phase (drop l.run.walk.next l.script.lines);
-  same : l.run.walk.script.now ≡ l.script;
+  plan_is : plan l.performed.script ≡ done ++ phases_from l.performed.script.library phase (drop l.run.walk.next l.performed.script.lines);
+  same : l.run.walk.script.now ≡ l.performed.script;
+  replays : IsReplaying l.performed.script.library l.performed.trace l.run.replay (plan l.performed.script)
+      l.choices standings (phases_from l.performed.script.library phase (drop l.run.walk.next l.performed.script.lines));
   room : HasRoom l.run;
-  out : IsTrue g.O.Sink.tells → g.O.Sink.held l.out ≡ g.O.Sink.held l.fn.out ++ out_for l.script.library done l.choices;
+  out : IsTrue g.O.Sink.tells → g.O.Sink.held l.out ≡ g.O.Sink.held l.fn.out ++ out_for l.performed.script.library done l.choices;
   trace : IsTrue g.T.Sink.tells
-      → g.T.Sink.held l.trace ≡ g.T.Sink.held l.fn.trace ++ traces_for l.traced l.script.library done l.choices;
+      → g.T.Sink.held l.trace ≡ g.T.Sink.held l.fn.trace ++ traces_for l.traced l.performed.script.library done l.choices;
   out_later : g.O.Sink.faults l.fn.out ≤ g.O.Sink.faults l.out;
   trace_later : g.T.Sink.faults l.fn.trace ≤ g.T.Sink.faults l.trace;
   same_out : g.O.Sink.setting l.out ≡ g.O.Sink.setting l.fn.out;
@@ -30,4 +33,4 @@ invariant-phases g l = record {
 }
 
 abbrev pub decreases-phases : goal.decreases-phases
-decreases-phases g l = length l.script.lines - l.run.walk.next
+decreases-phases g l = length l.performed.script.lines - l.run.walk.next

@@ -9,7 +9,7 @@ use Rattle.xdp_tool.proofs.run.Run.new.Goals as goal
 
 pub returns-clause-start : goal.returns-clause-start
 returns-clause-start c =
-    let queues = queues_of c.args.script.now.library.interfaces in
+    let queues = queues_of c.args.performed.now.script.library.interfaces in
     let all : map queue_of c.in_ok-queues.queues ≡ queues = c.in_ok-queues.ensures.queues in
     let many : length c.in_ok-queues.queues ≡ length queues = sym (length-map c.in_ok-queues.queues queue_of) ∙ ap length all in
     let n : c.len.result ≡ length queues = c.len.ensures ∙ many in

@@ -28,6 +28,7 @@ turns-preserved-in-Publish c =
       room = record { within = c.in_ok-change.ensures.within; published = omega (arith, moved, applied-few c.turns.self.state c.in-Publish.change, inv.room.published, ap (λ b. b.count) c.absorb.ensures); packets = c.in_ok-change.ensures.packets };
       later = omega (arith, moved, inv.later);
       same = c.next.ensures.same ∙ inv.same;
+      replay = inv.replay;
     }
 
 pub turns-preserved-in-HandIn : goal.turns-preserved-in-HandIn
@@ -52,6 +53,7 @@ turns-preserved-in-HandIn c =
       room = record { within = c.in_ok-change.ensures.within; published = omega (arith, moved, inv.room.published); packets = c.in_ok-change.ensures.packets };
       later = omega (arith, moved, inv.later);
       same = c.next.ensures.same ∙ inv.same;
+      replay = inv.replay;
     }
 
 pub turns-preserved : goal.turns-preserved
@@ -76,6 +78,7 @@ turns-preserved c =
       room = record { within = c.in_ok-change.ensures.within; published = omega (arith, moved, inv.room.published); packets = c.in_ok-change.ensures.packets };
       later = omega (arith, moved, inv.later);
       same = c.next.ensures.same ∙ inv.same;
+      replay = inv.replay;
     }
 
 pub returns-in-End-clause-ends : goal.returns-in-End-clause-ends

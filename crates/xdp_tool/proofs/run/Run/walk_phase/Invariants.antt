@@ -17,6 +17,7 @@ invariant-turns l = record {
   room : HasRoom l.self;
   later : l.fn.self.walk.next ≤ l.self.walk.next;
   same : l.self.walk.script.now ≡ l.fn.self.walk.script.now;
+  replay : l.self.replay ≡ l.fn.self.replay;
 }
 
 abbrev pub decreases-turns : goal.decreases-turns

@@ -1,11 +1,11 @@
 -- Legal counts, as phases end whose packets were carried at their hand-in.
 use Rattle.std.proofs.Common.{◌≡◌, ℕ, ◌≤◌, List, [], ◌∷◌, ◌++◌, length, arith, refl}
-use Rattle.std.specs.Prelude.{⊤}
 use Rattle.xdp_state.specs.Legal.{AreLegalAfter, AreLegalCounts, AreLegalFrom, first_last, last_of, lasts_of, other_lasts}
 use Rattle.xdp_state.specs.Work.{all_needs, needs_of, plan_of, plan_phase}
 use Rattle.xdp_state.specs.declared.packet.HandIn.{HandIn}
 use Rattle.xdp_state.specs.declared.plan.PlanPhase.{PlanPhase}
 use Rattle.xdp_tool.specs.Plan.{Phase, works_of}
+use Rattle.xdp_tool.specs.Ran.{AllWithin, lasts_after}
 use Rattle.xdp_tool.specs.Walked.{AreSteady}
 
 -- from a lower last count
@@ -20,11 +20,6 @@ last-within last published [] [] le legal = le
 last-within last published [] (c ∷ cs) le legal = absurd legal
 last-within last published (n ∷ ns) [] le legal = absurd legal
 last-within last published (n ∷ ns) (c ∷ cs) le legal = last-within c published ns cs legal.2 legal.3
-
--- each of the counts is at most this one
-abbrev pub AllWithin : ℕ → List ℕ → Type 0
-AllWithin most [] = ⊤
-AllWithin most (n ∷ ns) = (n ≤ most) × AllWithin most ns
 
 within-higher : (low high : ℕ) (lasts : List ℕ) → low ≤ high → AllWithin low lasts → AllWithin high lasts
 within-higher low high [] le within = tt
@@ -47,18 +42,14 @@ legal-steady low n lasts (hs ∷ hss) within steady = (
 )
 
 -- at the phase's end the last counts are within its publications
-pub lasts-within : (low n : ℕ) (lasts : List ℕ) (hss : List (List HandIn)) → low ≤ n → AllWithin low lasts → AreSteady low n hss → AllWithin n (lasts_of lasts (all_needs hss))
-lasts-within low n lasts [] le within steady = within-higher low n lasts le within
-lasts-within low n lasts (hs ∷ hss) le within steady = (
-  last-within (first_last lasts) n (needs_of hs) (needs_of hs) (omega (arith, le, first-within low lasts within))
-      (legal-lower low (first_last lasts) n (needs_of hs) (needs_of hs) (first-within low lasts within) steady.0),
-  lasts-within low n (other_lasts lasts) hss le (others-within low lasts within) steady.1,
+pub lasts-within : (low n : ℕ) (lasts : List ℕ) (needs counts : List (List ℕ)) → low ≤ n → AllWithin low lasts → AreLegalFrom lasts n needs counts → AllWithin n (lasts_of lasts counts)
+lasts-within low n lasts [] [] le within legal = within-higher low n lasts le within
+lasts-within low n lasts [] (cs ∷ css) le within legal = absurd legal
+lasts-within low n lasts (ns ∷ nss) [] le within legal = absurd legal
+lasts-within low n lasts (ns ∷ nss) (cs ∷ css) le within legal = (
+  last-within (first_last lasts) n ns cs (omega (arith, le, first-within low lasts within)) legal.0,
+  lasts-within low n (other_lasts lasts) nss css le (others-within low lasts within) legal.1,
 )
-
--- the last counts after some phases
-abbrev pub lasts_after : List ℕ → List (List (List ℕ)) → List ℕ
-lasts_after lasts [] = lasts
-lasts_after lasts (counts ∷ choices) = lasts_after (lasts_of lasts counts) choices
 
 pub lasts_after-more : (lasts : List ℕ) (choices : List (List (List ℕ))) (counts : List (List ℕ)) → lasts_after lasts (choices ++ counts ∷ []) ≡ lasts_of (lasts_after lasts choices) counts
 lasts_after-more lasts [] counts = refl
