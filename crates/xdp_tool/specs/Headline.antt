@@ -1,5 +1,5 @@
 -- What the top call promises of a run, of a script or of what kept the run from its first line.
-use Rattle.std.specs.Prelude.{◌≡◌, ℕ, ◌==◌, ◌&&◌, ◌||◌, Bool, true, false, not, Option, None, List, [], ◌∷◌, ◌++◌, length, map, Result, Ok, Err, IfSome, if◌then◌else◌, ⊤}
+use Rattle.std.specs.Prelude.{◌≡◌, ℕ, ◌==◌, ◌||◌, Bool, true, false, Option, None, List, [], ◌∷◌, ◌++◌, length, map, Result, Ok, Err, IfSome, if◌then◌else◌, ⊤}
 use Rattle.std.specs.Prelude.{String}
 use Rattle.std.specs.String.{string_bytes}
 use Rattle.command_line.specs.Names.{Names}
@@ -16,23 +16,23 @@ use Rattle.xdp_tool.specs.Touched.{calls_for}
 use Rattle.xdp_tool.specs.Traversed.{out_for, trace_for}
 use Rattle.xdp_tool.specs.Words.{names_in}
 use Rattle.xdp_tool.specs.declared.ending.Ending.{Ending}
-use Rattle.xdp_tool.specs.declared.ending.Ending.TheVariants.{Fault, OutOfMemory, Usage}
+use Rattle.xdp_tool.specs.declared.ending.Ending.TheVariants.{Fault, OutOfMemory}
 use Rattle.xdp_tool.specs.declared.performance.Performance.{Performance}
 use Rattle.xdp_tool.specs.declared.prepared.Prepared.{Prepared}
 
 abbrev pub words_of : {A : Type 0} → List (String A) → List (List ℕ)
 words_of words = map string_bytes words
 
--- what the words name; where only a replay is taken, words that don't ask for one name nothing
-abbrev pub names_for : {A : Type 0} → Bool → List (String A) → Result Names Ending
-names_for replays words =
-    if replays && not (wants_replay (words_of words)) then Err Usage else names_in (words_of words)
-
+-- what the words name
 abbrev pub names_by : {A : Type 0} → List (String A) → Result Names Ending
-names_by words = names_for false words
+names_by words = names_in (words_of words)
+
+-- where only a replay is taken, words that don't ask for one count as none, which aren't taken
+abbrev pub replay_words : {A : Type 0} → List (String A) → List (String A)
+replay_words words = if wants_replay (words_of words) then words else []
 
 abbrev pub replay_by : {A : Type 0} → List (String A) → Result Names Ending
-replay_by words = names_for true words
+replay_by words = names_by (replay_words words)
 
 -- what is read of the named files with the told contents, and what is prepared of it
 abbrev pub reading_by : Result Names Ending → Told → Result Reading Ending

@@ -1,6 +1,6 @@
 use Rattle.std.proofs.Common.{◌∙◌, inl, inr, Ok}
 use Rattle.command_line.specs.Names.{names_of}
-use Rattle.xdp_tool.specs.Headline.{names_for}
+use Rattle.xdp_tool.specs.Headline.{names_by}
 use Rattle.xdp_tool.specs.Named.{name_of}
 use Rattle.xdp_tool.specs.Outcome.{Whole, library_of, phases_of}
 use Rattle.xdp_tool.proofs.FilesRead.{taken-still}
@@ -126,11 +126,11 @@ returns-in-Err-clause-trace g c = λ tells script is.
 pub returns-clause-trace_whole : goal.returns-clause-trace_whole
 returns-clause-trace_whole g c = λ tells whole script is.
     rw (c.in-Ok-read_performance.ensures.only tells script (rw c.in-Ok.ensures.names at is))
-    (holds-ended (names_for c.args.replays c.args.words.now) c.in-Ok-read_performance.performed (g.F.Files.told c.read_performance.new.files) (g.F.Files.told c.work.new.files) c.work.new.choices c.work.result (rw c.ending_of.ensures at whole) (rw c.in-Ok.ensures.names (c.work.ensures.trace tells)))
+    (holds-ended (names_by c.args.words.now) c.in-Ok-read_performance.performed (g.F.Files.told c.read_performance.new.files) (g.F.Files.told c.work.new.files) c.work.new.choices c.work.result (rw c.ending_of.ensures at whole) (rw c.in-Ok.ensures.names (c.work.ensures.trace tells)))
 
 pub returns-in-Err-read_performance-clause-trace_whole : goal.returns-in-Err-read_performance-clause-trace_whole
 returns-in-Err-read_performance-clause-trace_whole g c = λ tells whole script is.
-    holds-early (names_for c.args.replays c.args.words.now) script c.in-Err-read_performance.ending _ c.args.choices.now (c.in-Err-read_performance.ensures.only tells script (rw c.in-Ok.ensures.names at is)) whole
+    holds-early (names_by c.args.words.now) script c.in-Err-read_performance.ending _ c.args.choices.now (c.in-Err-read_performance.ensures.only tells script (rw c.in-Ok.ensures.names at is)) whole
 
 pub returns-in-Err-clause-trace_whole : goal.returns-in-Err-clause-trace_whole
 returns-in-Err-clause-trace_whole g c = λ tells whole script is.

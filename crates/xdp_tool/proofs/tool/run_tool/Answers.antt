@@ -4,7 +4,7 @@ use Rattle.xdp_tool.specs.Headline.{is_decided, is_end, is_whole}
 use Rattle.xdp_tool.specs.Outcome.{Whole, ending_after}
 use Rattle.xdp_tool.proofs.Judged.{end-decided, replayed-differs, replayed-run}
 use Rattle.xdp_tool.proofs.Telling.{decided-told, explained-told, said-told, told-decided, told-end, told-whole, trace-front, trace-whole}
-use Rattle.xdp_tool.proofs.tool.play.Goals as goal
+use Rattle.xdp_tool.proofs.tool.run_tool.Goals as goal
 
 pub returns-clause-err_told : goal.returns-clause-err_told
 returns-clause-err_told g c = λ told known script is.
