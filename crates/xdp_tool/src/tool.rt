@@ -173,11 +173,7 @@ pub fn replay_tool<F: Files, O: Sink, E: Sink>(
 fn replay_words(words: &[String]) -> &[String]
     ensures { result.now ≡ replay_words words.now }
 {
-    if wants_replay(words) {
-        words
-    } else {
-        &[]
-    }
+    if wants_replay(words) { words } else { &[] }
 }
 
 /// A run that ended so, with these choices.
