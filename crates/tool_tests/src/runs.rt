@@ -89,7 +89,12 @@ fn add_trace(files: &mut MemoryFiles, trace: &str) -> Result<(), OutOfMemory> {
 
 /// Replays a trace, which the file `r` holds.
 fn replay(alloc: Global, script: &str, trace: &str) -> Result<Finished, Fail> {
-    let words = words_of(alloc, &["--replay", "r", "s"])?;
+    replay_by(alloc, &["--replay", "r", "s"], script, trace)
+}
+
+/// Takes these words for a replay.
+fn replay_by(alloc: Global, texts: &[&str], script: &str, trace: &str) -> Result<Finished, Fail> {
+    let words = words_of(alloc, texts)?;
     let mut files = files_of(alloc, script, STEADY)?;
     add_replayed(&mut files, trace)?;
     let mut out = MemorySink::new(alloc, 2000, &[])?;

@@ -1,4 +1,4 @@
-use super::{STEADY, run};
+use super::{STEADY, replay_by, run};
 use std::test::Fail;
 
 const SCRIPT: &str = "interface eth0 1
@@ -53,6 +53,25 @@ fn takes_words(rt: HostRuntime) -> Result<(), Fail> {
     for (words, status, out, err, trace) in WORDS {
         let run = run(rt.alloc(), words, SCRIPT, STEADY)?;
         assert!(rt; run.ended_so(status, 0) && run.said(out, err) && run.traced(trace));
+    }
+    Ok(())
+}
+
+/// Words for a replay, with the status, out and err.
+const REPLAYS: [(&[&str], u8, &str, &str); 6] = [
+    (&["--replay", "r", "s"], 0, OUT, ""),
+    (&["s", "--replay=r"], 0, OUT, ""),
+    (&["s"], 2, "", USAGE),
+    (&["--trace", "t", "s"], 2, "", USAGE),
+    (&["--", "--replay"], 2, "", USAGE),
+    (&[], 2, "", USAGE),
+];
+
+#[test]
+fn takes_words_of_a_replay(rt: HostRuntime) -> Result<(), Fail> {
+    for (words, status, out, err) in REPLAYS {
+        let run = replay_by(rt.alloc(), words, SCRIPT, TRACE)?;
+        assert!(rt; run.ended_so(status, 0) && run.said(out, err) && run.traced(None));
     }
     Ok(())
 }
