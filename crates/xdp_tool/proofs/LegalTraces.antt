@@ -1,5 +1,5 @@
 -- The trace of a run with legal counts, as it is replayed.
-use Rattle.std.proofs.Common.{◌≡◌, ℕ, ◌+◌, ◌-◌, ◌^◌, ◌<◌, ◌≤◌, ◌&&◌, ◌==◌, Bool, true, false, zero, suc, List, [], ◌∷◌, ◌++◌, length, drop, map, append-nil, append_assoc, Option, Some, None, refl, sym, ap, ◌∙◌, arith}
+use Rattle.std.proofs.Common.{◌≡◌, ℕ, ◌+◌, ◌-◌, ◌^◌, ◌<◌, ◌≤◌, ◌&&◌, ◌==◌, Bool, true, false, zero, suc, List, [], ◌∷◌, ◌++◌, length, drop, map, append-nil, append_assoc, Option, Some, None, refl, sym, ap, subst, ◌∙◌, arith}
 use Rattle.std.specs.Prelude.{if◌then◌else◌, replicate, slice_index_or, ⊤}
 use Rattle.std.proofs.lemmas.Bool.Decides.{nat_tests}
 use Rattle.std.proofs.lemmas.List.{length-map}
@@ -65,12 +65,12 @@ length-from high lasts (ns ∷ needs) [] legal = absurd legal
 length-from high lasts (ns ∷ needs) (cs ∷ counts) legal = omega (arith, length-from high (other_lasts lasts) needs counts legal.1)
 
 -- the counts of what was carried
-counts-one : (library : Library) (published : List Change) (standing : Standing) (last high : ℕ) (hs : List HandIn) (counts : List ℕ) → AreLegalCounts last high (needs_of hs) counts → counts_on (carried_from library published standing hs counts) ≡ counts
-counts-one library published standing last high [] [] legal = refl
-counts-one library published standing last high [] (c ∷ counts) legal = absurd legal
-counts-one library published standing last high (h ∷ hs) [] legal = absurd legal
-counts-one library published standing last high (h ∷ hs) (c ∷ counts) legal =
-    ap (λ more. c ∷ more) (counts-one library published _ c high hs counts legal.3)
+counts-one : (library : Library) (published : List Change) (high : ℕ) (hs : List HandIn) (counts : List ℕ) (last : ℕ) (standing : Standing) → AreLegalCounts last high (needs_of hs) counts → counts_on (carried_from library published standing hs counts) ≡ counts
+counts-one library published high [] [] last standing legal = refl
+counts-one library published high [] (c ∷ counts) last standing legal = absurd legal
+counts-one library published high (h ∷ hs) [] last standing legal = absurd legal
+counts-one library published high (h ∷ hs) (c ∷ counts) last standing legal =
+    ap (λ more. c ∷ more) (counts-one library published high hs counts c _ legal.3)
 
 counts-carried : (library : Library) (published : List Change) (high : ℕ) (lasts : List ℕ) (ss : List Standing) (hss : List (List HandIn)) (counts : List (List ℕ)) → length ss ≡ length hss → AreLegalFrom lasts high (all_needs hss) counts → map counts_on (carried_in library published ss hss counts) ≡ counts
 counts-carried library published high lasts [] [] [] same legal = refl
@@ -79,7 +79,7 @@ counts-carried library published high lasts [] (hs ∷ hss) counts same legal = 
 counts-carried library published high lasts (s ∷ ss) [] counts same legal = absurd (omega (arith, same))
 counts-carried library published high lasts (s ∷ ss) (hs ∷ hss) [] same legal = absurd legal
 counts-carried library published high lasts (s ∷ ss) (hs ∷ hss) (cs ∷ counts) same legal =
-    ap (λ (first : List ℕ). first ∷ map counts_on (carried_in library published ss hss counts)) (counts-one library published s (first_last lasts) high hs cs legal.0)
+    ap (λ (first : List ℕ). first ∷ map counts_on (carried_in library published ss hss counts)) (counts-one library published high hs cs (first_last lasts) s legal.0)
     ∙ ap (λ more. cs ∷ more) (counts-carried library published high (other_lasts lasts) ss hss counts (omega (arith, same)) legal.1)
 
 -- a phase of the trace
@@ -128,7 +128,7 @@ legal-covered library has (phase ∷ next ∷ phases) number standings lasts res
     let at = at-drop has number (counts_in carried) (map counts_in others) read in
     let this = phase-own library has number standings phase lasts rest left counts (sym same.0) legal.0 at.0 text (ap (λ b. may_end b left) ended.0.1) in
     let many : length after ≡ length standings = length-standings library phase.work.published standings phase.work.hand_ins counts (sym same.0) (length-from (length phase.work.published) lasts (all_needs phase.work.hand_ins) counts legal.0 ∙ length-map phase.work.hand_ins needs_of) in
-    let more = legal-covered library has (next ∷ phases) (number + 1) after (lasts_of lasts counts) left choices ended.1 (rw many same.1) legal.1 (omega (arith, whole)) at.1 refl in
+    let more = legal-covered library has (next ∷ phases) (number + 1) after (lasts_of lasts counts) left choices ended.1 (subst (λ (n : ℕ). AreFor n (next ∷ phases)) (sym many) same.1) legal.1 (omega (arith, whole)) at.1 refl in
     ap (λ (r : Replayed). cover_next r (λ (now : Replayed). covered_from library has (number + 1) (standings_in library phase.work.published standings phase.work.hand_ins now.counts) (lasts_of lasts now.counts) now.rest (next ∷ phases))) this
     ∙ ap (with_counts counts) more
 

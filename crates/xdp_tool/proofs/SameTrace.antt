@@ -141,7 +141,8 @@ covered-by number phase counts carried rest true covered =
 
 nothing-left : (barrier : Option ℕ) (rest : List ℕ) → barrier ≡ None → may_end barrier rest ≡ true → rest ≡ []
 nothing-left None [] last end = refl
-nothing-left None (b ∷ rest) last end = absurd (false≢true end)
+nothing-left None (b ∷ rest) last end =
+    let some : (length (b ∷ rest) == 0) ≡ false = grind (arith, nat_tests) in absurd (false≢true (sym some ∙ end))
 nothing-left (Some line) rest last end = absurd cc
 
 -- what a covered plan's choices are, and what is left of the text behind its first phase

@@ -13,5 +13,5 @@ returns-in_ok-carry_at_hand_in-in-None-clause-carries c = λ begun standings pha
 
 pub returns-in_ok-carry_at_hand_in-in-None-clause-legal : goal.returns-in_ok-carry_at_hand_in-in-None-clause-legal
 returns-in_ok-carry_at_hand_in-in-None-clause-legal c = λ begun phase lasts at published within has.
-    rw (c.in_ok-carry_at_hand_in-in-None.ensures.counts ∙ ap all_needs at.hand_ins, published)
+    rw (c.in_ok-carry_at_hand_in-in-None.ensures.counts ∙ ap all_needs at.hand_ins)
     (legal-steady (length begun.published) (length phase.work.published) lasts phase.work.hand_ins within at.steady)

@@ -31,8 +31,9 @@ returns-clause-legal c = λ begun phase lasts at published within is.
       | inl good ↦ good
       | inr bad ↦ absurd (let wrong = rw bad at c.if-not-is_covered.false in cc)
     ] in
-    let covered = and_parts c.in_ok-fronts.fronts.whole (c.in_ok-same.same && may_end c.args.end.barrier c.passes_phase.new.self.rest.now) (sym c.is_covered.ensures ∙ is_so) in
-    let whole = rw (c.in_ok-fronts.ensures.whole, hand_ins, counts) at covered.0 in
+    let covered = and_parts (c.in_ok-fronts.fronts.whole && c.in_ok-same.same) (may_end c.args.end.barrier c.passes_phase.new.self.rest.now) (sym c.is_covered.ensures ∙ is_so) in
+    let all = and_parts c.in_ok-fronts.fronts.whole c.in_ok-same.same covered.0 in
+    let whole = rw (c.in_ok-fronts.ensures.whole, hand_ins, counts) at all.0 in
     rw counts (legal-whole (length phase.work.published) lasts (all_needs phase.work.hand_ins) _ whole)
 
 pub returns-clause-replays : goal.returns-clause-replays

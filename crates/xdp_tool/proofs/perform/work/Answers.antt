@@ -229,4 +229,4 @@ returns-then-is_none-clause-replayed g c =
     let replaying = replay-walked c.args.performed.now.trace _ c.walk_phase.new.self.replay library (plan c.args.performed.now.script) c.phases.choices inv.standings _ phase (phases_behind library c.in-Ok-walk_phase.barrier ends.phase lines) c.walk_phase.ensures.same_replay (rw (c.walk_phase.ensures.same, inv.same) at ends.phases) inv.replays in
     let next = replay-next c.args.performed.now.trace c.walk_phase.new.self.replay c.end_phase.new.run.replay library (plan c.args.performed.now.script) c.phases.choices c.end_phase.new.choices inv.standings phase (last_counts c.end_phase.new.choices) (phases_behind library c.in-Ok-walk_phase.barrier ends.phase lines) c.in-Ok-end_phase.ensures.choices replaying (rw (c.walk_phase.ensures.same, inv.same) at (c.in-Ok-end_phase.ensures.replays inv.begun inv.past inv.standings ends.phase ends.stands)) in
     let last = behind-last library ends.phase c.in-Ok-walk_phase.barrier lines (ap not c.is_none.ensures ∙ ap (λ r. not (not r)) c.if-is_none.true) in
-    replay-ends c.args.performed.now.trace c.end_phase.new.run.replay library (plan c.args.performed.now.script) c.end_phase.new.choices _ _ (rw last at next)
+    replay-ends {A = Bool} c.args.performed.now.trace c.end_phase.new.run.replay library (plan c.args.performed.now.script) c.end_phase.new.choices _ c.end_phase.new.run.walk.refused (rw last at next)
