@@ -8,7 +8,8 @@ use lists::{Bytes, OutOfMemory};
 use std::alloc::Global;
 use std::test::Fail;
 use xdp_state::{
-    Change, Command, Interface, InterfaceList, Judgement, Kind, Library, Mode, Reason, State, judge,
+    Change, Command, DumpList, Interface, InterfaceList, Judgement, Kind, Library, Mode, Reason,
+    State, judge,
 };
 
 /// A command in a table, with the letter of its interface.
@@ -51,7 +52,7 @@ fn library(alloc: Global) -> Result<Library, OutOfMemory>
         let name = name(alloc, letter)?;
         list.push(Interface { name, queues: 1 })?;
     }
-    Ok(Library::new(alloc, list))
+    Ok(Library::new(alloc, list, DumpList::new(alloc)))
 }
 
 /// The answer, or none where a rule's flags aren't of its kind.

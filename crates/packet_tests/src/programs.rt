@@ -11,8 +11,8 @@ use object_load::{LoadEnd, programs_of};
 use std::alloc::Global;
 use std::test::Fail;
 use xdp_state::{
-    Command, Interface, InterfaceList, Judgement, Library, LoadWords, Loaded, Mode, ObjectRow, Own,
-    Packet, Reason, State, traverse,
+    Command, DumpList, Interface, InterfaceList, Judgement, Library, LoadWords, Loaded, Mode,
+    ObjectRow, Own, Packet, Reason, State, traverse,
 };
 use xio::Action;
 
@@ -99,7 +99,7 @@ fn library(alloc: Global, objects: &[Bytes]) -> Result<Library, OutOfMemory>
         name: text(alloc, b"eth0")?,
         queues: 1,
     })?;
-    let mut library = Library::new(alloc, interfaces);
+    let mut library = Library::new(alloc, interfaces, DumpList::new(alloc));
     for bytes in objects {
         let name = text(alloc, b"o")?;
         let loaded = loaded(alloc, bytes.as_slice())?;
@@ -261,7 +261,8 @@ fn carried(
         frame: text(alloc, &FRAME)?,
     };
     traverse(&state, &library, &mut own, &packet);
-    let (Some(visit), Some(first)) = (own.visits().first(), own.frame().first()) else {
+    let trip = own.trip(alloc)?;
+    let (Some(visit), Some(first)) = (trip.visits.as_slice().first(), own.frame().first()) else {
         return Ok(None);
     };
     Ok(Some((own.verdict(), visit.cause, *first)))
