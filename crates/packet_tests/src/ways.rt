@@ -101,12 +101,15 @@ fn sizes(kept: &Option<Captured>) -> Option<(u32, usize)> {
 fn keeps_the_frames_that_a_dump_asks_for(rt: HostRuntime) -> Result<(), Fail> {
     let filter: &[&[u8]] = &[b"a", b"xdp_filter"];
     let others: &[&[u8]] = &[b"xdp_filte"];
-    let rows: [(Asked, Option<(u32, usize)>, Option<(u32, usize)>); 5] = [
-        ((&[], true, false, 262_144), Some((14, 14)), None),
-        ((&[], false, true, 10), None, Some((14, 10))),
-        ((filter, true, true, 1), Some((14, 1)), Some((14, 1))),
-        ((filter, false, false, 14), None, None),
-        ((others, true, true, 14), None, None),
+    // the setting that the library has as 0, the one that is on, and what is kept
+    let rows: [(Asked, u32, Option<(u32, usize)>, Option<(u32, usize)>); 7] = [
+        ((&[], true, false, 262_144), 0, Some((14, 14)), None),
+        ((&[], false, true, 10), 0, None, Some((14, 10))),
+        ((filter, true, true, 1), 0, Some((14, 1)), Some((14, 1))),
+        ((filter, true, false, 0), 0, Some((14, 0)), None),
+        ((filter, false, false, 14), 0, None, None),
+        ((others, true, true, 14), 0, None, None),
+        ((&[], true, true, 14), 1, None, None),
     ];
     let mut state = State::new(rt.alloc())?;
     state.absorb(&Change::Attach {
@@ -120,13 +123,14 @@ fn keeps_the_frames_that_a_dump_asks_for(rt: HostRuntime) -> Result<(), Fail> {
         mask: 4,
         mode: Mode::Native,
     });
-    state.absorb(&Change::DumpOn {
-        interface: 3,
-        setting: 0,
-    });
     let mut own = Own::new(rt.alloc(), 0, 3, 0)?;
-    for (asked, entry, exit) in rows {
+    for (asked, setting, entry, exit) in rows {
         let library = dumping(rt.alloc(), asked)?;
+        state.absorb(&Change::DumpOff { interface: 3 });
+        state.absorb(&Change::DumpOn {
+            interface: 3,
+            setting,
+        });
         own.prepare(&state, &library)?;
         let frame = [2, 0, 0, 0, 0, 1, 2, 0, 0, 0, 0, 2, 0x88, 0xB5];
         traverse(&state, &library, &mut own, &packet(rt.alloc(), &frame)?);
