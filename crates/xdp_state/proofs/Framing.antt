@@ -28,20 +28,22 @@ frames-grown bytes more (mark ∷ marks) inside =
     ap (λ c. c ∷ frames_in (bytes ++ more) marks) (grown-one bytes more mark inside.0)
     ∙ ap (λ cs. option_map (marked bytes) mark ∷ cs) (frames-grown bytes more marks inside.1)
 
--- one frame more
-pub frames-more : (bytes more : List ℕ) (marks : List (Option Mark)) (mark : Option Mark) (new : Option Captured) → AllByRecursion (IsInside (length bytes)) marks → option_map (marked (bytes ++ more)) mark ≡ new
-    → frames_in (bytes ++ more) (marks ++ mark ∷ []) ≡ frames_in bytes marks ++ new ∷ []
-frames-more bytes more marks mark new inside is =
+-- one frame more, where so many bytes stood before
+pub frames-more : (bytes more : List ℕ) (size : ℕ) (marks : List (Option Mark)) (mark : Option Mark) (new : Option Captured) → size ≡ length bytes → AllByRecursion (IsInside size) marks
+    → option_map (marked (bytes ++ more)) mark ≡ new → frames_in (bytes ++ more) (marks ++ mark ∷ []) ≡ frames_in bytes marks ++ new ∷ []
+frames-more bytes more size marks mark new long inside is =
     map-append (λ m. option_map (marked (bytes ++ more)) m) marks (mark ∷ [])
-    ∙ ap (λ cs. cs ++ option_map (marked (bytes ++ more)) mark ∷ []) (frames-grown bytes more marks inside)
+    ∙ ap (λ cs. cs ++ option_map (marked (bytes ++ more)) mark ∷ []) (frames-grown bytes more marks (subst (λ n. AllByRecursion (IsInside n) marks) long inside))
     ∙ ap (λ c. frames_in bytes marks ++ c ∷ []) is
 
 -- the frame whose bytes are the last
-pub marked-last : (bytes frame : List ℕ) (snap : ℕ) (mark : Mark) → mark ≡ (let m : Mark = record { length = length frame; snap = snap; start = length bytes; kept = length (take snap frame) } in m)
+pub marked-last : (bytes frame : List ℕ) (snap start : ℕ) (mark : Mark) → start ≡ length bytes → mark ≡ (let m : Mark = record { length = length frame; snap = snap; start = start; kept = length (take snap frame) } in m)
     → marked (bytes ++ take snap frame) mark ≡ captured snap frame
-marked-last bytes frame snap mark is =
-    ap (marked (bytes ++ take snap frame)) is
-    ∙ ap (λ kept. let c : Captured = record { length = length frame; snap = snap; kept = kept } in c) (ap (take (length (take snap frame))) (drop-append_seam bytes (take snap frame)) ∙ take_all (length (take snap frame)) (take snap frame) (omega arith))
+marked-last bytes frame snap start mark long is =
+    let kept = take snap frame in
+    ap (marked (bytes ++ kept)) is
+    ∙ ap (λ bytes. let c : Captured = record { length = length frame; snap = snap; kept = bytes } in c)
+    (ap (λ start. take (length kept) (drop start (bytes ++ kept))) long ∙ ap (take (length kept)) (drop-append_seam bytes kept) ∙ take_all (length kept) kept (omega arith))
 
 inside-one : (size more : ℕ) (mark : Option Mark) → size ≤ more → IsInside size mark → IsInside more mark
 inside-one size more None few inside = tt

@@ -1,6 +1,6 @@
 -- A way through a chain, member by member.
-use Rattle.std.proofs.Common.{◌≡◌, ℕ, zero, suc, ◌+◌, true, false, List, [], ◌∷◌, ◌++◌, drop, length, refl, sym, ap, ◌∙◌, slice_get, Some, None, add-one, append_assoc, arith}
-use Rattle.std.specs.Prelude.{Option}
+use Rattle.std.proofs.Common.{◌≡◌, ℕ, zero, suc, ◌+◌, true, false, List, [], ◌∷◌, ◌++◌, drop, length, refl, sym, ap, ◌∙◌, slice_get, Some, None, add-one, append_assoc, arith, vec_capacity}
+use Rattle.std.specs.Prelude.{Option, vec_items}
 use Rattle.std.proofs.lemmas.List.{append-nil}
 use Rattle.chain_order.specs.declared.member.Member.{Member}
 use Rattle.xio.specs.Action.{has_action}
@@ -22,9 +22,11 @@ use Rattle.bpf_machine.specs.declared.ending.RunEnd.{RunEnd}
 use Rattle.object_load.specs.declared.program.Program.{Program}
 use Rattle.xdp_state.specs.Stores.{MemberMaps, maps_of, with_maps}
 use Rattle.xdp_state.specs.Traversal.{Course, Made, Passage, Setting, Way, course_of, decided, env_of, kept_by, made, passage, program_made, run_seen, setting_of, way_behind, way_from, way_of, with_visit}
-use Rattle.xdp_state.specs.Trails.{visit_of, visits_of}
+use Rattle.xdp_state.specs.Trails.{IsEven, visit_of, visits_in, visits_of}
 use Rattle.xdp_state.specs.declared.dump.Captured.{Captured}
+use Rattle.xdp_state.specs.declared.dump.Snaps.{Snaps}
 use Rattle.xdp_state.specs.declared.trail.Seen.{Seen}
+use Rattle.xdp_state.specs.declared.trail.Trail.{Trail}
 use Rattle.xdp_state.specs.declared.traversal.Visit.{Visit}
 
 -- a packet's way, where all that it depends on was read
@@ -94,6 +96,35 @@ length-push (y ∷ xs) x = let more = length-push xs x in omega (arith, more)
 
 pub longer : {A : Type 0} (old new : List A) (x : A) → new ≡ old ++ x ∷ [] → length new ≡ length old + 1
 longer old new x is = ap length is ∙ length-push old x
+
+-- what a trail is behind one more member
+pub record HasMore (setting : Setting) (member : Member) (seen : Seen) (before behind : Course) (old new : Trail) : Type 0 where
+  pub visits : visits_in new ≡ visits_in old ++ visit_as setting member seen before behind ∷ []
+  pub even : IsEven new
+  pub many : length new.seen.items ≡ length old.seen.items + 1
+
+-- the packet came to the member and left it, and both times its frame was kept where that is asked for
+pub trail-more : (setting : Setting) (member : Member) (seen : Seen) (before behind : Course) (snaps : Snaps) (old between new : Trail) → IsEven old → snaps ≡ snaps_of setting.library setting.dump member.kind
+    → between.entries ≡ old.entries ++ captured_at snaps.entry (bytes_in before.packet) ∷ [] → between.exits ≡ old.exits → between.seen ≡ old.seen
+    → new.seen.items ≡ between.seen.items ++ seen ∷ [] → new.entries ≡ between.entries → new.exits ≡ between.exits ++ captured_at snaps.exit (bytes_in behind.packet) ∷ [] → vec_capacity new.seen ≡ vec_capacity between.seen
+    → HasMore setting member seen before behind old new
+trail-more setting member seen before behind snaps old between new even asked came kept same left through gone room =
+    let asks : Snaps = snaps_of setting.library setting.dump member.kind in
+    let seens : new.seen.items ≡ old.seen.items ++ seen ∷ [] = left ∙ ap (λ (v : List Seen). v ++ seen ∷ []) (ap vec_items same) in
+    let entries : new.entries ≡ old.entries ++ captured_at asks.entry (bytes_in before.packet) ∷ [] =
+    through ∙ came ∙ ap (λ (s : Snaps). old.entries ++ captured_at s.entry (bytes_in before.packet) ∷ []) asked in
+    let exits : new.exits ≡ old.exits ++ captured_at asks.exit (bytes_in behind.packet) ∷ [] =
+    gone ∙ ap (λ (es : List (Option Captured)). es ++ captured_at snaps.exit (bytes_in behind.packet) ∷ []) kept ∙ ap (λ (s : Snaps). old.exits ++ captured_at s.exit (bytes_in behind.packet) ∷ []) asked in
+    let one = longer old.seen.items new.seen.items seen seens in
+    record {
+      visits = visits-next old.seen.items new.seen.items old.entries new.entries old.exits new.exits seen _ _ even.entries even.exits seens entries exits;
+      even = record {
+        entries = omega (arith, longer old.entries new.entries _ entries, one, even.entries);
+        exits = omega (arith, longer old.exits new.exits _ exits, one, even.exits);
+        room = omega (arith, room, ap (λ v. vec_capacity v) same, even.room);
+      };
+      many = one;
+    }
 
 -- the visit at a place
 pub visit-at : (seen : List Seen) (entries exits : List (Option Captured)) (place : ℕ) (here : Seen) (entry exit : Option Captured) → slice_get seen place ≡ Some here → slice_get entries place ≡ Some entry → slice_get exits place ≡ Some exit

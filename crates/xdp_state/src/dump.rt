@@ -35,22 +35,21 @@ pub(crate) struct Snaps {
     pub exit: Option<u32>,
 }
 
+const NO_SNAPS: Snaps = Snaps {
+    entry: None,
+    exit: None,
+};
+
 /// What the dump of this setting, where one is on, asks of a member.
 #[tactic(auto, unfolding(crate::specs::Dump::snaps_of))]
 pub(crate) fn snaps_of(library: &Library, dump: Option<u32>, member: Kind) -> Snaps
     ensures { result ≡ snaps_of library.now dump member }
 {
     let Some(setting) = dump else {
-        return Snaps {
-            entry: None,
-            exit: None,
-        };
+        return NO_SNAPS;
     };
     let Some(dump) = library.dumps.as_slice().get(setting as usize) else {
-        return Snaps {
-            entry: None,
-            exit: None,
-        };
+        return NO_SNAPS;
     };
     let asked = asks_for(dump, library.name_of(member));
     Snaps {

@@ -9,10 +9,11 @@ use std::alloc::Global;
 use std::marker::Model;
 use xio::OutOfMemory;
 
-/// How many frames are kept at most, and how many bytes of each.
+/// How many frames are kept at most.
 const FRAMES: usize = 10;
 
-const FRAME: usize = 16_384;
+/// How many bytes a frame has at most.
+const FRAME_BYTES: usize = 16_384;
 
 /// Which bytes are those of a frame, of which length and cut to how many.
 #[derive(Clone, Copy, Debug, PartialEq, Eq)]
@@ -48,7 +49,7 @@ impl Frames {
     {
         Ok(Frames {
             marks: Vec::with_capacity(alloc, FRAMES)?,
-            bytes: Vec::with_capacity(alloc, FRAMES * FRAME)?,
+            bytes: Vec::with_capacity(alloc, FRAMES * FRAME_BYTES)?,
         })
     }
 

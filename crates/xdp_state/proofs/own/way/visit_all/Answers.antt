@@ -1,14 +1,11 @@
-use Rattle.std.proofs.Common.{◌≡◌, ◌+◌, true, false, drop, length, List, [], ◌∷◌, ◌++◌, refl, ap, ◌∙◌, vec_capacity, arith}
+use Rattle.std.proofs.Common.{◌≡◌, ◌+◌, true, false, drop, length, refl, ap, ◌∙◌, arith}
 use Rattle.std.proofs.lemmas.List.{drop_all}
-use Rattle.bpf_machine.specs.Buffer.{bytes_in}
 use Rattle.xio.specs.Action.{has_action}
-use Rattle.xdp_state.specs.Dump.{captured_at}
 use Rattle.xdp_state.specs.Trails.{visits_in}
 use Rattle.xdp_state.specs.Traversal.{Course, Setting, course_of, setting_of, way_from}
-use Rattle.xdp_state.specs.declared.trail.Seen.{Seen}
 use Rattle.xdp_state.specs.declared.traversal.Visit.{Visit}
 use Rattle.xdp_state.proofs.Stores.{ready_of}
-use Rattle.xdp_state.proofs.Ways.{ends_here, front-decided, front-more, goes_on, longer, passage_is, visit_as, visits-next, way_ends, with_front}
+use Rattle.xdp_state.proofs.Ways.{ends_here, front-decided, front-more, goes_on, passage_is, trail-more, visit_as, way_ends, with_front}
 use Rattle.xdp_state.proofs.own.way.visit_all.Goals as goal
 
 pub visit-seen-requires-clause-ready : goal.visit-seen-requires-clause-ready
@@ -31,17 +28,14 @@ returns-then-not-is_in-clause-way c =
     let member = c.at-member.result.now in
     let seen = c.visit-seen.result in
     let visit : Visit = visit_as setting member seen before behind in
+    let old = c.loop-place.trail in
     let stops : has_action member.mask seen.action ≡ false = grind (arith, c.is_in.ensures, c.if-not-is_in.true) in
     let here = passage_is setting before behind member seen (c.visit-seen.ensures.made c.args.dump) in
-    let old = c.loop-place.trail in
-    let visits : visits_in c.leave.new.self ≡ visits_in old ++ visit ∷ [] =
-    visits-next old.seen.items c.leave.new.self.seen.items old.entries c.leave.new.self.entries old.exits c.leave.new.self.exits seen _ _ c.loop-place.invariant.even.entries c.loop-place.invariant.even.exits
-    (c.leave.ensures.seen ∙ ap (λ (seens : List Seen). seens ++ seen ∷ []) (ap (λ v. v.items) c.enter.ensures.seen))
-    (c.leave.ensures.entries ∙ rw c.snaps_of-snaps.ensures at c.enter.ensures.entries)
-    (rw c.snaps_of-snaps.ensures (c.leave.ensures.exits ∙ ap (λ exits. exits ++ captured_at c.snaps_of-snaps.result.exit (bytes_in c.visit-seen.new.machine.frame) ∷ []) c.enter.ensures.exits)) in
+    let more = trail-more setting member seen before behind c.snaps_of-snaps.result old c.enter.new.self c.leave.new.self c.loop-place.invariant.even c.snaps_of-snaps.ensures
+    c.enter.ensures.entries c.enter.ensures.exits c.enter.ensures.seen c.leave.ensures.seen c.leave.ensures.entries c.leave.ensures.exits c.leave.ensures.room in
     c.loop-place.invariant.way
     ∙ ap (with_front (visits_in old)) (ends_here setting before c.args.chain.now c.loop-place.place member seen visit behind c.at-member.ensures.member here stops)
-    ∙ rw visits (front-decided (visits_in old) seen visit behind)
+    ∙ rw more.visits (front-decided (visits_in old) seen visit behind)
 
 pub loop-place-preserved : goal.loop-place-preserved
 loop-place-preserved c =
@@ -51,28 +45,19 @@ loop-place-preserved c =
     let member = c.at-member.result.now in
     let seen = c.visit-seen.result in
     let visit : Visit = visit_as setting member seen before behind in
+    let old = c.loop-place.trail in
     let goes : has_action member.mask seen.action ≡ true = grind (arith, c.is_in.ensures, c.if-not-is_in.false) in
     let here = passage_is setting before behind member seen (c.visit-seen.ensures.made c.args.dump) in
-    let old = c.loop-place.trail in
-    let new = c.leave.new.self in
-    let s = c.leave.ensures.seen ∙ ap (λ (seens : List Seen). seens ++ seen ∷ []) (ap (λ v. v.items) c.enter.ensures.seen) in
-    let e = c.leave.ensures.entries ∙ rw c.snaps_of-snaps.ensures at c.enter.ensures.entries in
-    let x = rw c.snaps_of-snaps.ensures (c.leave.ensures.exits ∙ ap (λ exits. exits ++ captured_at c.snaps_of-snaps.result.exit (bytes_in c.visit-seen.new.machine.frame) ∷ []) c.enter.ensures.exits) in
-    let visits : visits_in new ≡ visits_in old ++ visit ∷ [] =
-    visits-next old.seen.items new.seen.items old.entries new.entries old.exits new.exits seen _ _ c.loop-place.invariant.even.entries c.loop-place.invariant.even.exits s e x in
-    let one = longer old.seen.items new.seen.items seen s in
+    let more = trail-more setting member seen before behind c.snaps_of-snaps.result old c.enter.new.self c.leave.new.self c.loop-place.invariant.even c.snaps_of-snaps.ensures
+    c.enter.ensures.entries c.enter.ensures.exits c.enter.ensures.seen c.leave.ensures.seen c.leave.ensures.entries c.leave.ensures.exits c.leave.ensures.room in
     record {
       way =
           c.loop-place.invariant.way
           ∙ ap (with_front (visits_in old)) (goes_on setting before c.args.chain.now c.loop-place.place member seen visit behind c.at-member.ensures.member here goes)
-          ∙ rw visits (front-more (visits_in old) visit (way_from setting behind (drop (c.loop-place.place + 1) c.args.chain.now)));
+          ∙ rw more.visits (front-more (visits_in old) visit (way_from setting behind (drop (c.loop-place.place + 1) c.args.chain.now)));
       ready = c.visit-seen.ensures.ready c.args.chain.now c.loop-place.invariant.ready;
-      even = record {
-        entries = omega (arith, longer old.entries new.entries _ e, one, c.loop-place.invariant.even.entries);
-        exits = omega (arith, longer old.exits new.exits _ x, one, c.loop-place.invariant.even.exits);
-        room = omega (arith, c.leave.ensures.room, ap (λ v. vec_capacity v) c.enter.ensures.seen, c.loop-place.invariant.even.room);
-      };
-      place = omega (arith, one, c.loop-place.invariant.place);
+      even = more.even;
+      place = omega (arith, more.many, c.loop-place.invariant.place);
     }
 
 pub returns-clause-way : goal.returns-clause-way
