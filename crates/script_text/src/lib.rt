@@ -4,6 +4,7 @@
 mod actions;
 mod arranged;
 mod chains;
+mod dump;
 mod ethernet;
 mod filter;
 mod frame;
@@ -28,6 +29,7 @@ mod reading;
 mod refusal;
 mod rule;
 mod script;
+mod sides;
 mod table;
 mod text;
 mod trace;
@@ -42,7 +44,9 @@ pub use chains::{chain_print, chain_text, chains_print};
 pub use frame::Frame;
 pub use laws::reads_back;
 pub use objects::NameList;
-pub use outcome::{Outcome, end_print, end_text, outcome_print, outcome_text};
+pub use outcome::{
+    HandEnd, LimitName, Outcome, end_print, end_text, limit_name, outcome_print, outcome_text,
+};
 pub use processor::{processor_line, processor_print};
 pub use script::{Script, ScriptEnd, read_script};
 pub use table::{rules_print, rules_text};

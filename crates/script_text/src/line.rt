@@ -1,26 +1,30 @@
 ghost use Rattle.std.specs.Prelude.{◌≡◌, ◌+◌, ◌≤◌, ℕ, true, length, Err, IfOk, OnOk, OnErr};
-ghost use Rattle.script_text.specs.Handed.{IsSound, asks_frame, asks_processor, asks_flags};
+ghost use Rattle.script_text.specs.Handed.{IsSound, asks_frame, asks_processor, asks_file, asks_flags};
 ghost use Rattle.script_text.specs.Interfaces.{queue_count, packet_of};
 ghost use Rattle.script_text.specs.Readings.{Leads, Reads};
-ghost use Rattle.script_text.specs.Script.{interface_line, loader_line, packet_line, what_of, read_line};
+ghost use Rattle.script_text.specs.Script.{dump_line, interface_line, loader_line, packet_line, send_line, start_line, stop_of, what_of, read_line};
 ghost use Rattle.script_text.specs.declared.reading.LineEnd.TheVariants.{BadLine};
+ghost use Rattle.script_text.specs.WordViews.{arranged_of};
 ghost use Rattle.script_text.specs.Words.{words_of};
+ghost use Rattle.xdp_state.specs.Answer.{rule_fits};
 
-use crate::arranged::arranged;
+use crate::arranged::{Words, arranged};
+use crate::dump::setting_of;
 use crate::filter::filter_line;
 use crate::frame::Frame;
 use crate::interfaces::{hand_in_of, interface_of};
 use crate::loader::loader_command;
+use crate::name::is_name;
 use crate::objects::add_object;
-use crate::options::loader_verb_of;
-use crate::reading::LineEnd;
-use crate::rule::{BAD_BYTE, BAD_FORM, BAD_FRAME, UNKNOWN};
+use crate::options::{Verb, dump_verb_of, loader_verb_of};
+use crate::reading::{LineEnd, keeps};
+use crate::rule::{BAD_BYTE, BAD_FORM, BAD_FRAME, BAD_NAME, UNKNOWN};
 use crate::script::Script;
 use crate::text::bytes_of;
 use crate::what::{Line, What};
 use crate::words::{are_printable, is_comment, is_option, next_word};
 use std::alloc::Global;
-use xdp_state::Interface;
+use xdp_state::{Command, Interface};
 
 /// Reads `NAME QUEUES`.
 #[tactic(auto, unfolding(crate::specs::Script::interface_line))]
@@ -72,6 +76,73 @@ fn loader_line(alloc: Global, script: &mut Script, number: u32, words: &[u8]) ->
     Ok(())
 }
 
+/// Adds the start of a dump on the interface of a name, with what it asks for.
+#[tactic(auto, unfolding(crate::specs::Script::start_line), using(crate::proofs::HandedLemmas::handed))]
+fn start_line(
+    alloc: Global,
+    script: &mut Script,
+    number: u32,
+    words: Words<'_>,
+    name: &[u8],
+) -> Result<(), LineEnd>
+    requires { IsSound script.old }
+    ensures script { Leads result script.new (start_line script.old number (arranged_of words.entry) name.now) }
+    ensures sound { OnOk result (IsSound script.new) }
+    ensures lines { length script.new.lines ≤ length script.old.lines + 1 }
+    ensures bad { (rule : ℕ) → result ≡ Err (BadLine rule) → script.new ≡ script.old }
+{
+    let setting = setting_of(alloc, words.given, words.plain, name)?;
+    let command = Command::DumpStart {
+        interface: bytes_of(alloc, name)?,
+        setting: script.dumps.len(),
+    };
+    script.dumps.push(setting)?;
+    script.lines.push(Line {
+        line: number,
+        what: What::Command(command),
+    })?;
+    Ok(())
+}
+
+/// Reads the words of `stop`.
+#[tactic(auto, unfolding(crate::specs::Script::stop_of))]
+fn stop_of(alloc: Global, name: &[u8]) -> Result<Command, LineEnd>
+    ensures command { Reads result (stop_of name.now) }
+    ensures flags { IfOk result (λ command. rule_fits command ≡ true) }
+{
+    keeps(BAD_NAME, is_name(name))?;
+    Ok(Command::DumpStop {
+        interface: bytes_of(alloc, name)?,
+    })
+}
+
+/// Reads a line of `xdpdump`, by the words behind the first. Where a rule is broken the script stays as it was.
+#[tactic(auto, unfolding(crate::specs::Script::dump_line), using(crate::proofs::HandedLemmas::handed))]
+fn dump_line(alloc: Global, script: &mut Script, number: u32, words: &[u8]) -> Result<(), LineEnd>
+    requires { IsSound script.old }
+    ensures script { Leads result script.new (dump_line script.old number (words_of words.now)) }
+    ensures sound { OnOk result (IsSound script.new) }
+    ensures lines { length script.new.lines ≤ length script.old.lines + 1 }
+    ensures bad { (rule : ℕ) → result ≡ Err (BadLine rule) → script.new ≡ script.old }
+{
+    let Some((verb, behind)) = next_word(words) else {
+        return Err(LineEnd::BadLine { rule: BAD_FORM });
+    };
+    let Some(verb) = dump_verb_of(verb) else {
+        return Err(LineEnd::BadLine { rule: UNKNOWN });
+    };
+    let words = arranged(verb, behind)?;
+    match (verb, words.plain.first, words.plain.second) {
+        (Verb::DumpStart, Some(name), None) => start_line(alloc, script, number, words, name),
+        (Verb::DumpStop, Some(name), None) => {
+            let what = What::Command(stop_of(alloc, name)?);
+            script.lines.push(Line { line: number, what })?;
+            Ok(())
+        }
+        _ => Err(LineEnd::BadLine { rule: BAD_FORM }),
+    }
+}
+
 /// The packet of a hand-in's words.
 #[tactic(auto, unfolding(crate::specs::Interfaces::packet_of), using(crate::proofs::HandedLemmas::least))]
 fn packet_of(
@@ -83,6 +154,7 @@ fn packet_of(
 ) -> Result<What, LineEnd>
     requires { queue_count interfaces.now ≤ 8 }
     ensures what { Reads result (packet_of interfaces.now name.now queue.now digits.now) }
+    ensures file { IfOk result (λ what. asks_file what ≡ true) }
     ensures frame { IfOk result (λ what. asks_frame what ≡ true) }
     ensures processor { IfOk result (λ what. asks_processor (queue_count interfaces.now) what ≡ true) }
     ensures flags { IfOk result (λ what. asks_flags what ≡ true) }
@@ -102,6 +174,7 @@ fn packet_of(
 fn packet_line(alloc: Global, interfaces: &[Interface], words: &[u8]) -> Result<What, LineEnd>
     requires { queue_count interfaces.now ≤ 8 }
     ensures what { Reads result (packet_line interfaces.now (words_of words.now)) }
+    ensures file { IfOk result (λ what. asks_file what ≡ true) }
     ensures frame { IfOk result (λ what. asks_frame what ≡ true) }
     ensures processor { IfOk result (λ what. asks_processor (queue_count interfaces.now) what ≡ true) }
     ensures flags { IfOk result (λ what. asks_flags what ≡ true) }
@@ -121,6 +194,37 @@ fn packet_line(alloc: Global, interfaces: &[Interface], words: &[u8]) -> Result<
     packet_of(alloc, interfaces, name, queue, digits)
 }
 
+/// Reads `NAME QUEUE FILE`.
+#[tactic(auto, unfolding(crate::specs::Script::send_line))]
+fn send_line(alloc: Global, interfaces: &[Interface], words: &[u8]) -> Result<What, LineEnd>
+    requires { queue_count interfaces.now ≤ 8 }
+    ensures what { Reads result (send_line interfaces.now (words_of words.now)) }
+    ensures file { IfOk result (λ what. asks_file what ≡ true) }
+    ensures frame { IfOk result (λ what. asks_frame what ≡ true) }
+    ensures processor { IfOk result (λ what. asks_processor (queue_count interfaces.now) what ≡ true) }
+    ensures flags { IfOk result (λ what. asks_flags what ≡ true) }
+{
+    let Some((name, behind)) = next_word(words) else {
+        return Err(LineEnd::BadLine { rule: BAD_FORM });
+    };
+    let Some((queue, behind)) = next_word(behind) else {
+        return Err(LineEnd::BadLine { rule: BAD_FORM });
+    };
+    let Some((file, behind)) = next_word(behind) else {
+        return Err(LineEnd::BadLine { rule: BAD_FORM });
+    };
+    if next_word(behind).is_some() || is_option(name) || is_option(queue) || is_option(file) {
+        return Err(LineEnd::BadLine { rule: BAD_FORM });
+    }
+    keeps(BAD_BYTE, are_printable(file))?;
+    let processor = match hand_in_of(interfaces, name, queue) {
+        Ok(processor) => processor,
+        Err(rule) => return Err(LineEnd::BadLine { rule }),
+    };
+    let file = bytes_of(alloc, file)?;
+    Ok(What::Send { processor, file })
+}
+
 /// Reads a line that asks for something, by its first word and those behind it.
 #[tactic(auto, unfolding(crate::specs::Script::what_of))]
 fn what_of(
@@ -131,6 +235,7 @@ fn what_of(
 ) -> Result<What, LineEnd>
     requires { queue_count interfaces.now ≤ 8 }
     ensures what { Reads result (what_of interfaces.now command.now (words_of words.now)) }
+    ensures file { IfOk result (λ what. asks_file what ≡ true) }
     ensures frame { IfOk result (λ what. asks_frame what ≡ true) }
     ensures processor { IfOk result (λ what. asks_processor (queue_count interfaces.now) what ≡ true) }
     ensures flags { IfOk result (λ what. asks_flags what ≡ true) }
@@ -140,6 +245,9 @@ fn what_of(
     }
     if command == b"packet".as_slice() {
         return packet_line(alloc, interfaces, words);
+    }
+    if command == b"send".as_slice() {
+        return send_line(alloc, interfaces, words);
     }
     if command != b"barrier".as_slice() {
         return Err(LineEnd::BadLine { rule: UNKNOWN });
@@ -178,6 +286,9 @@ pub fn read_line(
     }
     if command == b"xdp-loader".as_slice() {
         return loader_line(alloc, script, number, words);
+    }
+    if command == b"xdpdump".as_slice() {
+        return dump_line(alloc, script, number, words);
     }
     let what = what_of(alloc, script.interfaces.as_slice(), command, words)?;
     script.lines.push(Line { line: number, what })?;

@@ -1,7 +1,7 @@
 ghost use Rattle.std.specs.Prelude.{◌≡◌, ◌+◌, ◌≤◌, true, length, IfOk};
 ghost use Rattle.std.specs.List.{list_all};
 ghost use Rattle.std.specs.Str.Lines.{lines};
-ghost use Rattle.script_text.specs.Handed.{are_printable, has_frame, has_processor, has_flags};
+ghost use Rattle.script_text.specs.Handed.{are_printable, has_file, has_frame, has_processor, has_flags};
 ghost use Rattle.script_text.specs.Interfaces.{queue_count};
 ghost use Rattle.script_text.specs.Script.{script_of, bad_script, Agrees};
 
@@ -12,17 +12,20 @@ use crate::reading::LineEnd;
 use crate::rule::Rule;
 use crate::what::LineList;
 use std::alloc::Global;
-use xdp_state::InterfaceList;
+use xdp_state::{DumpList, InterfaceList};
 
 /// The most lines of a script.
 const MOST_LINES: u32 = 65_536;
 
-/// A script: the interfaces that it declares, the files of the objects that it loads, and what its other lines ask.
+/// A script: the interfaces that it declares, the files of the objects that it loads, what its dumps ask for, and what its
+/// other lines ask.
 #[derive(Debug, Drop)]
 pub struct Script {
     pub interfaces: InterfaceList,
     /// Each once, in the order of the lines that name them first; commands name them by their places.
     pub objects: NameList,
+    /// One for each start of a dump; commands name them by their places.
+    pub dumps: DumpList,
     pub lines: LineList,
 }
 
@@ -43,12 +46,14 @@ pub fn read_script(alloc: Global, bytes: &[u8]) -> Result<Script, ScriptEnd>
     ensures rules { IfOk result (λ script. list_all has_flags script.lines ≡ true) }
     ensures lines { IfOk result (λ script. length script.lines ≤ 65536) }
     ensures objects { IfOk result (λ script. are_printable script.objects ≡ true) }
+    ensures files { IfOk result (λ script. list_all has_file script.lines ≡ true) }
     ensures interfaces { IfOk result (λ script. length script.interfaces ≤ 8) }
     ensures queues { IfOk result (λ script. queue_count script.interfaces ≤ 8) }
 {
     let mut script = Script {
         interfaces: InterfaceList::new(alloc),
         objects: NameList::new(alloc),
+        dumps: DumpList::new(alloc),
         lines: LineList::new(alloc),
     };
     let mut line = 0;

@@ -44,7 +44,18 @@ fn each_rule(rt: HostRuntime) -> Result<(), Fail> {
         ("xdp-loader poll eth0 a.o", 2),
         ("xdp-loader port 53", 2),
         ("xdp-filter poll 1 2 3", 2),
+        ("xdpdump status", 2),
         ("xdp-filter", 3),
+        ("xdpdump", 3),
+        ("xdpdump start", 3),
+        ("xdpdump start eth0 eth1", 3),
+        ("xdpdump start eth0 -p a --program-names b", 3),
+        ("xdpdump start eth0 -m skb", 3),
+        ("xdpdump stop", 3),
+        ("xdpdump stop eth0 -s 1", 3),
+        ("send eth0 0", 3),
+        ("send eth0 0 a b", 3),
+        ("send eth0 0 -f", 3),
         ("barrier x", 3),
         ("interface -x 1", 3),
         ("interface eth1", 3),
@@ -73,6 +84,8 @@ fn each_rule(rt: HostRuntime) -> Result<(), Fail> {
         ("xdp-loader load e/h a.o -P 4294967296", 4),
         ("xdp-loader unload eth0 -a --id -1", 4),
         ("interface e/h 9", 4),
+        ("xdpdump start e/h -s 262145 --rx-capture x", 4),
+        ("send e/h q f", 4),
         ("interface eth1 0", 4),
         ("xdp-filter port 65536 -m x", 4),
         ("xdp-filter port 000000000000000000053", 4),
@@ -85,11 +98,16 @@ fn each_rule(rt: HostRuntime) -> Result<(), Fail> {
         ("xdp-loader unload e/h", 5),
         ("xdp-loader status e/h", 5),
         ("packet e/h 0 x", 5),
+        ("send e/h 0 f", 5),
+        ("xdpdump start e/h -p a,a", 5),
+        ("xdpdump stop e/h", 5),
         ("barrier\ninterface eth0 8", 6),
         ("interface eth0 8", 7),
         ("interface eth1 8", 8),
         ("packet eth1 0 x", 9),
         ("packet eth0 1 x", 9),
+        ("send eth1 0 f", 9),
+        ("send eth0 1 f", 9),
         ("packet eth0 99999999999999999999 x", 9),
         ("packet eth0 0 0200000000010200000000028", 10),
         ("packet eth0 0 02000000000102000000000288", 10),
@@ -108,6 +126,11 @@ fn each_rule(rt: HostRuntime) -> Result<(), Fail> {
         ("xdp-filter port 1 -p tcp,ipv4", 11),
         ("xdp-filter port 1 -p all", 11),
         ("xdp-filter ip x -m dst,", 11),
+        ("xdpdump start eth0 --rx-capture entry,entry", 11),
+        ("xdpdump start eth0 --rx-capture out", 11),
+        ("xdpdump start eth0 -p a,", 11),
+        ("xdpdump start eth0 -p a,b,a", 11),
+        ("xdpdump start eth0 -p a,b,c,d,e,f,g,h,i,j,k", 11),
         ("xdp-filter ether 02:00:00:00:00:1", 12),
         ("xdp-loader unload eth0", 13),
         ("xdp-loader unload eth0 -i 1 -a", 13),
@@ -117,6 +140,18 @@ fn each_rule(rt: HostRuntime) -> Result<(), Fail> {
         let last = if line.starts_with("barrier\n") { 3 } else { 2 };
         assert_eq!(rt; reading(rt.alloc(), &script), Err((last, rule)), "{line}");
     }
+    Ok(())
+}
+
+/// A name of 64 bytes.
+const HALF: &str = "aaaaaaaaaaaaaaaaaaaaaaaaaaaaaaaaaaaaaaaaaaaaaaaaaaaaaaaaaaaaaaaa";
+
+#[test]
+fn long_program_names(rt: HostRuntime) -> Result<(), Fail> {
+    let longest = format!(in rt.alloc(); "interface eth0 1\nxdpdump start eth0 -p b,{HALF}{HALF}")?;
+    assert_eq!(rt; reading(rt.alloc(), &longest), Ok(1));
+    let longer = format!(in rt.alloc(); "interface eth0 1\nxdpdump start eth0 -p b,{HALF}{HALF}a")?;
+    assert_eq!(rt; reading(rt.alloc(), &longer), Err((2, 11)));
     Ok(())
 }
 

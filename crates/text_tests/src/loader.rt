@@ -1,7 +1,9 @@
 use script_text::{Script, What, chain_text, read_script};
 use std::alloc::Global;
 use std::test::Fail;
-use xdp_state::{Change, Command, Interface, InterfaceList, Kind, Library, LoadWords, Mode, State};
+use xdp_state::{
+    Change, Command, DumpList, Interface, InterfaceList, Kind, Library, LoadWords, Mode, State,
+};
 use xio::{Bytes, OutOfMemory};
 
 /// What a load on eth0 asks for, of the object with this place.
@@ -201,7 +203,7 @@ fn library(alloc: Global) -> Result<Library, OutOfMemory> {
         name.append(word)?;
         interfaces.push(Interface { name, queues: 1 })?;
     }
-    Ok(Library::new(alloc, interfaces))
+    Ok(Library::new(alloc, interfaces, DumpList::new(alloc)))
 }
 
 fn is_table(alloc: Global, state: &State, library: &Library, interface: u32, wanted: &str) -> bool {

@@ -2,7 +2,7 @@ use filter_rules::{Policy, RuleKey};
 use script_text::{Script, What, read_script};
 use std::alloc::Global;
 use std::test::Fail;
-use xdp_state::{Command, Mode};
+use xdp_state::{Command, DumpSetting, Mode};
 
 /// The rule of a script of one line: its key, its flags, and whether it is removed.
 fn rule_of(alloc: Global, line: &str) -> Option<(RuleKey, u8, bool)> {
@@ -96,6 +96,56 @@ fn loads(rt: HostRuntime) -> Result<(), Fail> {
     for (options, load) in loads {
         let line = format!(in rt.alloc(); "xdp-filter load {options} eth0")?;
         assert_eq!(rt; load_of(rt.alloc(), &line), Some(load), "{line}");
+    }
+    Ok(())
+}
+
+/// How many names a dump on eth0 asks for, at which sides, and the most bytes that it keeps.
+fn dump_of(alloc: Global, line: &str) -> Option<(u32, bool, bool, u32)> {
+    let script = read_script(alloc, line.as_bytes()).ok()?;
+    let [dump] = script.dumps.as_slice() else {
+        return None;
+    };
+    let DumpSetting {
+        names,
+        entry,
+        exit,
+        snap,
+    } = dump;
+    match &script.lines.as_slice().first()?.what {
+        What::Command(
+            Command::DumpStart {
+                interface,
+                setting: 0,
+            },
+        ) if interface.as_slice() == b"eth0".as_slice() => Some((
+            names.len(),
+            *entry,
+            *exit,
+            *snap,
+        )),
+        _ => None,
+    }
+}
+
+#[test]
+fn dumps(rt: HostRuntime) -> Result<(), Fail> {
+    let dumps = [
+        ("", (0, true, false, 262_144)),
+        ("-s 0 -p all", (0, true, false, 262_144)),
+        (
+            "--rx-capture exit --snapshot-length 96",
+            (0, false, true, 96),
+        ),
+        ("-p a,all --rx-capture entry,exit", (2, true, true, 262_144)),
+        (
+            "--program-names a,b,c,d,e,f,g,h,i,j --rx-capture exit,entry -s 262144",
+            (10, true, true, 262_144),
+        ),
+    ];
+    for (options, dump) in dumps {
+        let line = format!(in rt.alloc(); "xdpdump start {options} eth0")?;
+        assert_eq!(rt; dump_of(rt.alloc(), &line), Some(dump), "{line}");
     }
     Ok(())
 }

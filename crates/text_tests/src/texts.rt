@@ -4,7 +4,8 @@ use elf_objects::BadElf;
 use filter_rules::{Policy, RuleKey};
 use object_load::LoadRefusal;
 use script_text::{
-    Outcome, TraceRow, end_text, outcome_text, processor_line, rules_text, trace_line,
+    HandEnd, LimitName, Outcome, TraceRow, end_text, outcome_text, processor_line, rules_text,
+    trace_line,
 };
 use std::alloc::Global;
 use std::test::Fail;
@@ -25,10 +26,9 @@ fn is_end(alloc: Global, count: u32, wanted: &str) -> bool {
     }
 }
 
-const OUTCOMES: [(Outcome, &str); 5] = [
+const OUTCOMES: [(Outcome, &str); 4] = [
     (Outcome::Ok(1), "7 ok 1\n"),
     (Outcome::Shown, "7 ok\n"),
-    (Outcome::Handed { packets: 3 }, "7 handed 3\n"),
     (Outcome::Barrier(4), "7 barrier 4\n"),
     (
         Outcome::Refused(Reason::BadObject(LoadRefusal::NoProgram)),
@@ -44,7 +44,39 @@ fn outcomes(rt: HostRuntime) {
     assert!(rt; is_end(rt.alloc(), 2, "end 2\n"));
 }
 
-const REASONS: [(Reason, &str); 11] = [
+const ENDS: [(HandEnd, &str); 6] = [
+    (HandEnd::Whole, "7 handed 3\n"),
+    (
+        HandEnd::BadCapture {
+            offset: 144,
+            rule: 5,
+        },
+        "7 handed 3, bad capture at 144: rule P5\n",
+    ),
+    (HandEnd::ReadFault, "7 handed 3, read fault\n"),
+    (
+        HandEnd::Limit(LimitName::Packets),
+        "7 handed 3, limit packets\n",
+    ),
+    (
+        HandEnd::Limit(LimitName::FrameBytes),
+        "7 handed 3, limit bytes\n",
+    ),
+    (
+        HandEnd::Limit(LimitName::Capture),
+        "7 handed 3, limit capture\n",
+    ),
+];
+
+#[test]
+fn ends_of_hand_ins(rt: HostRuntime) {
+    for (end, wanted) in ENDS {
+        let outcome = Outcome::Handed { packets: 3, end };
+        assert!(rt; is_outcome(rt.alloc(), &outcome, wanted), "{wanted}");
+    }
+}
+
+const REASONS: [(Reason, &str); 13] = [
     (Reason::NoInterface, "no such interface"),
     (Reason::NoSuchProgram, "no such program"),
     (Reason::ModeDiffers, "mode differs"),
@@ -56,6 +88,8 @@ const REASONS: [(Reason, &str); 11] = [
     (Reason::FeatureMissing, "feature missing"),
     (Reason::RulesFull, "rules full"),
     (Reason::NoSuchRule, "no such rule"),
+    (Reason::DumpThere, "dump there"),
+    (Reason::DumpNotThere, "dump not there"),
 ];
 
 const REFUSALS: [(LoadRefusal, &str); 9] = [
@@ -231,10 +265,13 @@ fn tally(alloc: Global) -> Result<Tally, OutOfMemory> {
     for (rule, action, handed) in packets {
         let visit = Visit {
             number: 1,
+            kind: Kind::Program(0),
             action,
             cause: Cause::Exit,
             target: 0,
             rule: Some(rule),
+            entry: None,
+            exit: None,
         };
         tally.add(&[visit], action, handed)?;
     }

@@ -1,16 +1,22 @@
+use crate::dump::Captured;
 use bpf_machine::Cause;
+use chain_order::Kind;
 use lists::{Bytes, List};
 use xio::Action;
 
-/// What one member made of a packet: its action, why a program ended so, the target of XDP_REDIRECT, else 0, and the row
-/// of a filter that named the packet. A filter's cause is `Exit`.
-#[derive(Clone, Copy, Debug, PartialEq, Eq)]
+/// What one member made of a packet: its action, why a program ended so, the target of XDP_REDIRECT, else 0, the row of a
+/// filter that named the packet, and the frames before it and behind it, where a dump asks for them. A filter's cause is
+/// `Exit`.
+#[derive(Debug, Drop)]
 pub struct Visit {
     pub number: u32,
+    pub kind: Kind,
     pub action: Action,
     pub cause: Cause,
     pub target: u32,
     pub rule: Option<u32>,
+    pub entry: Option<Captured>,
+    pub exit: Option<Captured>,
 }
 
 pub type VisitList = List<Visit>;
