@@ -1,7 +1,9 @@
--- What a dump asks for, by the words of `xdpdump start`.
+-- The lines of `xdpdump`, by their words.
 use Rattle.std.specs.Prelude.{ℕ, ◌==◌, ◌&&◌, Bool, true, false, not, nat_le, nat_lt, List, [], ◌∷◌, ◌++◌, length, codes, Option, Some, None, Result, Ok, Err, if◌then◌else◌}
 use Rattle.std.specs.Str.{bytes_eq}
 use Rattle.xdp_state.specs.Library.{is_among}
+use Rattle.xdp_state.specs.declared.command.Command.{Command}
+use Rattle.xdp_state.specs.declared.command.Command.TheVariants.{DumpStop}
 use Rattle.xdp_state.specs.declared.dump.DumpSetting.{DumpSetting}
 use Rattle.script_text.specs.Names.{is_name}
 use Rattle.script_text.specs.Options.{PlainWords}
@@ -40,9 +42,12 @@ has_exit Entry = false
 has_exit Exit = true
 has_exit Both = true
 
--- packets as they enter, whole, where no option says otherwise
+-- What a dump on the interface of the name asks for: packets as they enter all members, whole, where no option says otherwise.
 unfoldable pub setting_of : Given → PlainWords → List ℕ → Result DumpSetting ℕ
 setting_of given plain name =
     both (keeps 5 (is_name name)) (both (or_else given.sides Entry) (or_else given.snap 262144)) >>= λ read.
     names_given plain.names >>= λ names.
     Ok (record { names = names; entry = has_entry read.1.0; exit = has_exit read.1.0; snap = read.1.1 })
+
+unfoldable pub stop_of : List ℕ → Result Command ℕ
+stop_of name = keeps 5 (is_name name) >>= λ _. Ok (DumpStop name)
