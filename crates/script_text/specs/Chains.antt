@@ -1,6 +1,7 @@
 -- The table of `xdp-loader status`, behind its first line: of each interface its mode, and its members in the order in which they run.
 use Rattle.std.specs.Prelude.{ℕ, ◌+◌, List, [], ◌∷◌, ◌++◌, slice_get, codes, Option, Some, None}
 use Rattle.std.specs.Fmt.{decimal}
+use Rattle.std.specs.Option.{option_map_or}
 use Rattle.chain_order.specs.declared.member.Member.{Member}
 use Rattle.script_text.specs.Lists.{mask_text}
 use Rattle.script_text.specs.Vocabulary.{mode_name}
