@@ -21,6 +21,9 @@ pub list_all-push : {X : Type 0} (p : X → Bool) (xs : List X) (x : X) → list
 list_all-push p [] x all this = rw this refl
 list_all-push p (y ∷ xs) x all this = grind (arith, nat_tests, list_all-push p xs x)
 
+pub one_more : {X : Type 0} (xs : List X) (x : X) → length (xs ++ x ∷ []) ≤ length xs + 1
+one_more xs x = omega (arith, length-append xs (x ∷ []))
+
 -- the rules of a hand-in's place are less than that of its frame
 pub both-least : {A B : Type 0} (rule other : ℕ) (x : Option B) → rule ≤ other → both {A = A} (Err rule) (found other x) ≡ Err rule
 both-least rule other None least = ap Err (omega arith)

@@ -18,11 +18,13 @@ abbrev pub takes_name : List (List ℕ) → List ℕ → Bool
 takes_name names name =
     nat_lt (length names) 10 && not (length name == 0) && nat_le (length name) 128 && not (is_among name names)
 
+unfoldable pub with_name : List (List ℕ) → List ℕ → Result (List (List ℕ)) ℕ
+with_name names name = keeps 11 (takes_name names name) >>= λ _. Ok (names ++ name ∷ [])
+
 -- the names so far and those behind them
 abbrev pub names_behind : List (List ℕ) → List (List ℕ) → Result (List (List ℕ)) ℕ
 names_behind names [] = Ok names
-names_behind names (name ∷ more) =
-    keeps 11 (takes_name names name) >>= λ _. names_behind (names ++ name ∷ []) more
+names_behind names (name ∷ more) = with_name names name >>= λ names. names_behind names more
 
 -- names with commas between them; the one word `all` is none of them
 unfoldable pub names_of : List ℕ → Result (List (List ℕ)) ℕ

@@ -1,8 +1,8 @@
 ghost use Rattle.std.specs.Prelude.{◌≡◌, true, IfOk};
-ghost use Rattle.script_text.specs.Dump.{has_entry, has_exit, names_given, names_of, setting_of, stop_of, takes_name};
+ghost use Rattle.script_text.specs.Dump.{has_entry, has_exit, names_given, names_of, setting_of, stop_of, takes_name, with_name};
 ghost use Rattle.xdp_state.specs.Answer.{rule_fits};
 ghost use Rattle.xdp_state.specs.Library.{is_among};
-ghost use Rattle.script_text.specs.Readings.{Reads};
+ghost use Rattle.script_text.specs.Readings.{Leads, Reads};
 ghost use Rattle.script_text.specs.WordViews.{plain_of, word_of};
 
 use crate::arranged::Plain;
@@ -39,6 +39,16 @@ fn takes_name(names: &NameList, name: &[u8]) -> bool
         && !is_among(names.as_slice(), name)
 }
 
+/// Puts a name behind the others.
+#[tactic(auto, unfolding(crate::specs::Dump::with_name))]
+fn add_name(alloc: Global, names: &mut NameList, name: &[u8]) -> Result<(), LineEnd>
+    ensures { Leads result names.new (with_name names.old name.now) }
+{
+    keeps(BAD_CHOICE, takes_name(names, name))?;
+    names.push(bytes_of(alloc, name)?)?;
+    Ok(())
+}
+
 /// The names of a list, each at most once; the one word `all` gives none.
 #[tactic(auto, unfolding(crate::specs::Dump::names_of))]
 fn names_of(alloc: Global, list: &[u8]) -> Result<NameList, LineEnd>
@@ -51,8 +61,7 @@ fn names_of(alloc: Global, list: &[u8]) -> Result<NameList, LineEnd>
     let mut rest = list;
     loop {
         let part = first_part(rest, b',');
-        keeps(BAD_CHOICE, takes_name(&names, part.part))?;
-        names.push(bytes_of(alloc, part.part)?)?;
+        add_name(alloc, &mut names, part.part)?;
         match part.behind {
             Some(behind) => rest = behind,
             None => return Ok(names),
