@@ -1,7 +1,9 @@
--- What a dump asks for, by the words of `xdpdump start`.
+-- The lines of `xdpdump`, by their words.
 use Rattle.std.specs.Prelude.{ℕ, ◌==◌, ◌&&◌, Bool, true, false, not, nat_le, nat_lt, List, [], ◌∷◌, ◌++◌, length, codes, Option, Some, None, Result, Ok, Err, if◌then◌else◌}
 use Rattle.std.specs.Str.{bytes_eq}
 use Rattle.xdp_state.specs.Library.{is_among}
+use Rattle.xdp_state.specs.declared.command.Command.{Command}
+use Rattle.xdp_state.specs.declared.command.Command.TheVariants.{DumpStop}
 use Rattle.xdp_state.specs.declared.dump.DumpSetting.{DumpSetting}
 use Rattle.script_text.specs.Names.{is_name}
 use Rattle.script_text.specs.Options.{PlainWords}
@@ -16,11 +18,13 @@ abbrev pub takes_name : List (List ℕ) → List ℕ → Bool
 takes_name names name =
     nat_lt (length names) 10 && not (length name == 0) && nat_le (length name) 128 && not (is_among name names)
 
+unfoldable pub with_name : List (List ℕ) → List ℕ → Result (List (List ℕ)) ℕ
+with_name names name = keeps 11 (takes_name names name) >>= λ _. Ok (names ++ name ∷ [])
+
 -- the names so far and those behind them
 abbrev pub names_behind : List (List ℕ) → List (List ℕ) → Result (List (List ℕ)) ℕ
 names_behind names [] = Ok names
-names_behind names (name ∷ more) =
-    keeps 11 (takes_name names name) >>= λ _. names_behind (names ++ name ∷ []) more
+names_behind names (name ∷ more) = with_name names name >>= λ names. names_behind names more
 
 -- names with commas between them; the one word `all` is none of them
 unfoldable pub names_of : List ℕ → Result (List (List ℕ)) ℕ
@@ -40,9 +44,12 @@ has_exit Entry = false
 has_exit Exit = true
 has_exit Both = true
 
--- packets as they enter, whole, where no option says otherwise
+-- What a dump on the interface of the name asks for: packets as they enter all members, whole, where no option says otherwise.
 unfoldable pub setting_of : Given → PlainWords → List ℕ → Result DumpSetting ℕ
 setting_of given plain name =
     both (keeps 5 (is_name name)) (both (or_else given.sides Entry) (or_else given.snap 262144)) >>= λ read.
     names_given plain.names >>= λ names.
     Ok (record { names = names; entry = has_entry read.1.0; exit = has_exit read.1.0; snap = read.1.1 })
+
+unfoldable pub stop_of : List ℕ → Result Command ℕ
+stop_of name = keeps 5 (is_name name) >>= λ _. Ok (DumpStop name)

@@ -88,7 +88,7 @@ port_option word =
 abbrev pub dump_option : List ℕ → Role
 dump_option word =
     if is_either (codes "-p") (codes "--program-names") word then role.Label label.Names
-    else if is_either (codes "--rx-capture") (codes "--rx-capture") word then role.Setting setting.Sides
+    else if bytes_eq word (codes "--rx-capture") then role.Setting setting.Sides
     else if is_either (codes "-s") (codes "--snapshot-length") word then role.Setting setting.Snap
     else role.Unknown
 

@@ -19,11 +19,8 @@ use Rattle.std.specs.Str.{bytes_eq}
 use Rattle.std.specs.Str.Lines.{lines}
 use Rattle.xdp_state.specs.declared.command.Command.{Command}
 use Rattle.xdp_state.specs.declared.command.Command.TheVariants as command
-use Rattle.script_text.specs.Names.{is_name}
-use Rattle.script_text.specs.declared.options.Verb.{Verb}
-use Rattle.script_text.specs.declared.options.Verb.TheVariants as verb
 use Rattle.xdp_state.specs.declared.interface.Interface.{Interface}
-use Rattle.script_text.specs.Dump.{setting_of}
+use Rattle.script_text.specs.Dump.{setting_of, stop_of}
 use Rattle.script_text.specs.Filter.{filter_line}
 use Rattle.script_text.specs.Interfaces.{hand_in_of, interface_of, packet_of}
 use Rattle.script_text.specs.Loader.{loader_command}
@@ -31,6 +28,8 @@ use Rattle.script_text.specs.Objects.{objects_with}
 use Rattle.script_text.specs.Options.{Arranged, arranged, dump_verb_of, loader_verb_of}
 use Rattle.script_text.specs.Readings.{◌>>=◌, found, keeps}
 use Rattle.script_text.specs.Words.{words_of, is_comment, is_option, is_printable}
+use Rattle.script_text.specs.declared.options.Verb.{Verb}
+use Rattle.script_text.specs.declared.options.Verb.TheVariants as verb
 use Rattle.script_text.specs.declared.script.Script.{Script}
 use Rattle.script_text.specs.declared.script.ScriptEnd.{ScriptEnd}
 use Rattle.script_text.specs.declared.script.ScriptEnd.TheVariants.{BadScript, TooManyLines, OutOfMemory}
@@ -66,9 +65,6 @@ start_line script number words name =
     with_line (record script { dumps = script.dumps ++ setting ∷ [] }) number
     (what.Command (command.DumpStart name (length script.dumps)))
 
-unfoldable pub stop_of : List ℕ → Result Command ℕ
-stop_of name = keeps 5 (is_name name) >>= λ _. Ok (command.DumpStop name)
-
 abbrev pub dump_command : Script → ℕ → Verb → Arranged → Option (List ℕ) → Option (List ℕ) → Result Script ℕ
 dump_command script number verb.DumpStart words (Some name) None = start_line script number words name
 dump_command script number verb.DumpStop words (Some name) None =
@@ -89,7 +85,7 @@ packet_line interfaces (name ∷ queue ∷ digits ∷ []) =
     else packet_of interfaces name queue digits
 packet_line interfaces _ = Err 3
 
--- `send NAME QUEUE FILE`
+-- `send NAME QUEUE FILE`; the file's name is printable as the line is
 unfoldable pub send_line : List Interface → List (List ℕ) → Result What ℕ
 send_line interfaces (name ∷ queue ∷ file ∷ []) =
     if is_option name || is_option queue || is_option file then Err 3

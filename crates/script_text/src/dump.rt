@@ -1,7 +1,8 @@
-ghost use Rattle.std.specs.Prelude.{◌≡◌};
-ghost use Rattle.script_text.specs.Dump.{has_entry, has_exit, names_given, names_of, setting_of, takes_name};
+ghost use Rattle.std.specs.Prelude.{◌≡◌, true, IfOk};
+ghost use Rattle.script_text.specs.Dump.{has_entry, has_exit, names_given, names_of, setting_of, stop_of, takes_name, with_name};
+ghost use Rattle.xdp_state.specs.Answer.{rule_fits};
 ghost use Rattle.xdp_state.specs.Library.{is_among};
-ghost use Rattle.script_text.specs.Readings.{Reads};
+ghost use Rattle.script_text.specs.Readings.{Leads, Reads};
 ghost use Rattle.script_text.specs.WordViews.{plain_of, word_of};
 
 use crate::arranged::Plain;
@@ -13,13 +14,14 @@ use crate::rule::{BAD_CHOICE, BAD_NAME};
 use crate::text::bytes_of;
 use crate::word_lists::Sides;
 use std::alloc::Global;
-use xdp_state::{DumpSetting, NameList};
+use xdp_state::{Command, DumpSetting, NameList};
 use xio::Bytes;
 
-/// How many names a dump may ask for, and how many bytes of each.
-const NAMES: u32 = 10;
+/// The most names that a dump asks for.
+const MOST_NAMES: u32 = 10;
 
-const NAME: usize = 128;
+/// The most bytes of such a name.
+const LONGEST_NAME: usize = 128;
 
 fn is_among(names: &[Bytes], name: &[u8]) -> bool
     ensures { result ≡ is_among name.now names.now }
@@ -31,10 +33,20 @@ fn is_among(names: &[Bytes], name: &[u8]) -> bool
 fn takes_name(names: &NameList, name: &[u8]) -> bool
     ensures { result ≡ takes_name names.now name.now }
 {
-    names.len() < NAMES
+    names.len() < MOST_NAMES
         && !name.is_empty()
-        && name.len() <= NAME
+        && name.len() <= LONGEST_NAME
         && !is_among(names.as_slice(), name)
+}
+
+/// Puts a name behind the others.
+#[tactic(auto, unfolding(crate::specs::Dump::with_name))]
+fn add_name(alloc: Global, names: &mut NameList, name: &[u8]) -> Result<(), LineEnd>
+    ensures { Leads result names.new (with_name names.old name.now) }
+{
+    keeps(BAD_CHOICE, takes_name(names, name))?;
+    names.push(bytes_of(alloc, name)?)?;
+    Ok(())
 }
 
 /// The names of a list, each at most once; the one word `all` gives none.
@@ -49,8 +61,7 @@ fn names_of(alloc: Global, list: &[u8]) -> Result<NameList, LineEnd>
     let mut rest = list;
     loop {
         let part = first_part(rest, b',');
-        keeps(BAD_CHOICE, takes_name(&names, part.part))?;
-        names.push(bytes_of(alloc, part.part)?)?;
+        add_name(alloc, &mut names, part.part)?;
         match part.behind {
             Some(behind) => rest = behind,
             None => return Ok(names),
@@ -102,5 +113,17 @@ pub fn setting_of(
         entry: has_entry(sides),
         exit: has_exit(sides),
         snap,
+    })
+}
+
+/// Reads the words of `stop`.
+#[tactic(auto, unfolding(crate::specs::Dump::stop_of))]
+pub fn stop_of(alloc: Global, name: &[u8]) -> Result<Command, LineEnd>
+    ensures command { Reads result (stop_of name.now) }
+    ensures flags { IfOk result (λ command. rule_fits command ≡ true) }
+{
+    keeps(BAD_NAME, is_name(name))?;
+    Ok(Command::DumpStop {
+        interface: bytes_of(alloc, name)?,
     })
 }

@@ -2,23 +2,21 @@ ghost use Rattle.std.specs.Prelude.{◌≡◌, ◌+◌, ◌≤◌, ℕ, true, le
 ghost use Rattle.script_text.specs.Handed.{IsSound, asks_frame, asks_processor, asks_file, asks_flags};
 ghost use Rattle.script_text.specs.Interfaces.{queue_count, packet_of};
 ghost use Rattle.script_text.specs.Readings.{Leads, Reads};
-ghost use Rattle.script_text.specs.Script.{dump_line, interface_line, loader_line, packet_line, send_line, start_line, stop_of, what_of, read_line};
+ghost use Rattle.script_text.specs.Script.{dump_line, interface_line, loader_line, packet_line, send_line, start_line, what_of, read_line};
 ghost use Rattle.script_text.specs.declared.reading.LineEnd.TheVariants.{BadLine};
 ghost use Rattle.script_text.specs.WordViews.{arranged_of};
 ghost use Rattle.script_text.specs.Words.{words_of};
-ghost use Rattle.xdp_state.specs.Answer.{rule_fits};
 
 use crate::arranged::{Words, arranged};
-use crate::dump::setting_of;
+use crate::dump::{setting_of, stop_of};
 use crate::filter::filter_line;
 use crate::frame::Frame;
 use crate::interfaces::{hand_in_of, interface_of};
 use crate::loader::loader_command;
-use crate::name::is_name;
 use crate::objects::add_object;
 use crate::options::{Verb, dump_verb_of, loader_verb_of};
 use crate::reading::{LineEnd, keeps};
-use crate::rule::{BAD_BYTE, BAD_FORM, BAD_FRAME, BAD_NAME, UNKNOWN};
+use crate::rule::{BAD_BYTE, BAD_FORM, BAD_FRAME, UNKNOWN};
 use crate::script::Script;
 use crate::text::bytes_of;
 use crate::what::{Line, What};
@@ -102,18 +100,6 @@ fn start_line(
         what: What::Command(command),
     })?;
     Ok(())
-}
-
-/// Reads the words of `stop`.
-#[tactic(auto, unfolding(crate::specs::Script::stop_of))]
-fn stop_of(alloc: Global, name: &[u8]) -> Result<Command, LineEnd>
-    ensures command { Reads result (stop_of name.now) }
-    ensures flags { IfOk result (λ command. rule_fits command ≡ true) }
-{
-    keeps(BAD_NAME, is_name(name))?;
-    Ok(Command::DumpStop {
-        interface: bytes_of(alloc, name)?,
-    })
 }
 
 /// Reads a line of `xdpdump`, by the words behind the first. Where a rule is broken the script stays as it was.

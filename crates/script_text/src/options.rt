@@ -230,7 +230,7 @@ fn dump_option(word: &[u8]) -> Role
 {
     if is_either(b"-p", b"--program-names", word) {
         Role::Label(Label::Names)
-    } else if is_either(b"--rx-capture", b"--rx-capture", word) {
+    } else if word == b"--rx-capture".as_slice() {
         Role::Setting(Setting::Sides)
     } else if is_either(b"-s", b"--snapshot-length", word) {
         Role::Setting(Setting::Snap)

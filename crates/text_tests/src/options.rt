@@ -150,6 +150,64 @@ fn dumps(rt: HostRuntime) -> Result<(), Fail> {
     Ok(())
 }
 
+fn is_stop(what: &What) -> bool {
+    match what {
+        What::Command(Command::DumpStop { interface }) => interface.as_slice()
+            == b"eth1".as_slice(),
+        _ => false,
+    }
+}
+
+/// Whether the start of a dump on eth0 has the setting of this number, which asks for the program.
+fn is_start(script: &Script, what: &What, number: u32, name: &str) -> bool {
+    match what {
+        What::Command(Command::DumpStart { interface, setting }) => {
+            let asked = script.dumps.as_slice().get(number as usize);
+            let names = asked.map_or(&[], |asked| asked.names.as_slice());
+            interface.as_slice() == b"eth0".as_slice()
+                && *setting == number
+                && matches!(names, [only] if only.as_slice() == name.as_bytes())
+        }
+        _ => false,
+    }
+}
+
+fn is_send(what: &What, of: u32, name: &str) -> bool {
+    match what {
+        What::Send { processor, file } => *processor == of && file.as_slice() == name.as_bytes(),
+        _ => false,
+    }
+}
+
+const CAPTURES: &str = "interface eth0 2
+interface eth1 3
+xdpdump start eth0 -p a
+send eth1 1 web.pcapng
+xdpdump start eth0 -p a
+xdpdump stop eth1
+";
+
+fn are_captures(script: &Script) -> bool {
+    let [start, send, again, stop] = script.lines.as_slice() else {
+        return false;
+    };
+    script.dumps.len() == 2
+        && is_start(script, &start.what, 0, "a")
+        && is_send(&send.what, 3, "web.pcapng")
+        && is_start(script, &again.what, 1, "a")
+        && is_stop(&stop.what)
+        && stop.line == 6
+}
+
+#[test]
+fn captures(rt: HostRuntime) -> Result<(), Fail> {
+    let script = read_script(rt.alloc(), CAPTURES.as_bytes())
+        .ok()
+        .ok_or("bad")?;
+    assert!(rt; are_captures(&script));
+    Ok(())
+}
+
 fn is_unload(what: &What, keeps: bool) -> bool {
     match what {
         What::Command(Command::FilterUnload { interface, keep }) => {
