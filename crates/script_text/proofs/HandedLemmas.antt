@@ -8,7 +8,7 @@ use Rattle.xdp_state.specs.declared.command.Command.{Command}
 use Rattle.xdp_state.specs.declared.command.Command.TheVariants as command
 use Rattle.xdp_state.specs.declared.dump.DumpSetting.{DumpSetting}
 use Rattle.xdp_state.specs.declared.interface.Interface.{Interface}
-use Rattle.script_text.specs.Handed.{IsSound, are_printable, has_file, has_frame, has_processor, has_flags, asks_file, asks_frame, asks_processor, asks_flags}
+use Rattle.script_text.specs.Handed.{IsSound, are_printable, has_frame, has_processor, has_flags, asks_frame, asks_processor, asks_flags}
 use Rattle.script_text.specs.Interfaces.{queue_count, has_room}
 use Rattle.script_text.specs.Objects.{object_place, objects_with}
 use Rattle.script_text.specs.Readings.{both, found}
@@ -42,7 +42,6 @@ sound_interface script interface sound room none =
     let fits : (length script.interfaces + 1 ≤ 8) × (queue_count script.interfaces + interface.queues ≤ 8) = grind (arith, nat_tests, room) in
     record {
       frames = all_of_none _ _ none;
-      files = all_of_none _ _ none;
       processors = all_of_none _ _ none;
       flags = all_of_none _ _ none;
       interfaces = omega (arith, length-append script.interfaces (interface ∷ []), fits);
@@ -61,12 +60,11 @@ objects-printable objects (Some name) all this = chosen (object_place objects na
     chosen false = all
 
 sound_added : (script : Script) (objects : List (List ℕ)) (dumps : List DumpSetting) (line : Line) → IsSound script → are_printable objects ≡ true
-    → asks_frame line.what ≡ true → asks_file line.what ≡ true → asks_processor (queue_count script.interfaces) line.what ≡ true
+    → asks_frame line.what ≡ true → asks_processor (queue_count script.interfaces) line.what ≡ true
     → asks_flags line.what ≡ true
     → IsSound (record { interfaces = script.interfaces; objects = objects; dumps = dumps; lines = script.lines ++ line ∷ [] })
-sound_added script objects dumps line sound printable frame file processor flags = record {
+sound_added script objects dumps line sound printable frame processor flags = record {
   frames = list_all-push has_frame script.lines line sound.frames frame;
-  files = list_all-push has_file script.lines line sound.files file;
   processors = list_all-push (has_processor (queue_count script.interfaces)) script.lines line sound.processors processor;
   flags = list_all-push has_flags script.lines line sound.flags flags;
   interfaces = sound.interfaces;
@@ -74,11 +72,11 @@ sound_added script objects dumps line sound printable frame file processor flags
   queues = sound.queues;
 }
 
-pub sound_line : (script : Script) (line : Line) → IsSound script → asks_frame line.what ≡ true → asks_file line.what ≡ true
+pub sound_line : (script : Script) (line : Line) → IsSound script → asks_frame line.what ≡ true
     → asks_processor (queue_count script.interfaces) line.what ≡ true → asks_flags line.what ≡ true
     → IsSound (record { interfaces = script.interfaces; objects = script.objects; dumps = script.dumps; lines = script.lines ++ line ∷ [] })
-sound_line script line sound frame file processor flags =
-    sound_added script script.objects script.dumps line sound sound.objects frame file processor flags
+sound_line script line sound frame processor flags =
+    sound_added script script.objects script.dumps line sound sound.objects frame processor flags
 
 -- a line that loads the object of a name
 pub sound_load : (script : Script) (name : Option (List ℕ)) (number : ℕ) (command : Command) → IsSound script → IfSome name (λ n. list_all is_printable n ≡ true)
@@ -91,7 +89,7 @@ pub sound_load : (script : Script) (name : Option (List ℕ)) (number : ℕ) (co
     })
 sound_load script name number command sound printable flags =
     sound_added script (objects_with script.objects name) script.dumps (record { line = number; what = what.Command command }) sound
-    (objects-printable script.objects name sound.objects printable) refl refl refl flags
+    (objects-printable script.objects name sound.objects printable) refl refl flags
 
 -- a line that starts a dump
 pub sound_start : (script : Script) (setting : DumpSetting) (number : ℕ) (name : List ℕ) (place : ℕ) → IsSound script
@@ -103,7 +101,7 @@ pub sound_start : (script : Script) (setting : DumpSetting) (number : ℕ) (name
     })
 sound_start script setting number name place sound =
     sound_added script script.objects (script.dumps ++ setting ∷ []) (record { line = number; what = what.Command (command.DumpStart name place) })
-    sound sound.objects refl refl refl refl
+    sound sound.objects refl refl refl
 
 pub ruleset handed = (sound_line sound_start)
 

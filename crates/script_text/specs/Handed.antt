@@ -20,20 +20,11 @@ has_frame line = asks_frame line.what
 
 abbrev pub asks_processor : ℕ → What → Bool
 asks_processor processors (what.Packet processor frame) = nat_lt processor processors
-asks_processor processors (what.Send processor file) = nat_lt processor processors
 asks_processor processors _ = true
 
--- a line that hands in packets names one of so many processors
+-- a line that hands in a packet names one of so many processors
 abbrev pub has_processor : ℕ → Line → Bool
 has_processor processors line = asks_processor processors line.what
-
-abbrev pub asks_file : What → Bool
-asks_file (what.Send processor file) = list_all is_printable file
-asks_file _ = true
-
--- a line that hands in the packets of a file has printable bytes alone in its name
-abbrev pub has_file : Line → Bool
-has_file line = asks_file line.what
 
 abbrev pub asks_flags : What → Bool
 asks_flags (what.Command command) = rule_fits command
@@ -49,7 +40,6 @@ are_printable names = list_all (λ name. list_all is_printable name) names
 
 pub record IsSound (script : Script) : Type 0 where
   pub frames : list_all has_frame script.lines ≡ true
-  pub files : list_all has_file script.lines ≡ true
   pub processors : list_all (has_processor (queue_count script.interfaces)) script.lines ≡ true
   pub flags : list_all has_flags script.lines ≡ true
   pub interfaces : length script.interfaces ≤ 8

@@ -22,11 +22,11 @@ use Rattle.xdp_state.specs.declared.command.Command.TheVariants as command
 use Rattle.xdp_state.specs.declared.interface.Interface.{Interface}
 use Rattle.script_text.specs.Dump.{setting_of, stop_of}
 use Rattle.script_text.specs.Filter.{filter_line}
-use Rattle.script_text.specs.Interfaces.{hand_in_of, interface_of, packet_of}
+use Rattle.script_text.specs.Interfaces.{interface_of, packet_of}
 use Rattle.script_text.specs.Loader.{loader_command}
 use Rattle.script_text.specs.Objects.{objects_with}
 use Rattle.script_text.specs.Options.{Arranged, arranged, dump_verb_of, loader_verb_of}
-use Rattle.script_text.specs.Readings.{◌>>=◌, found, keeps}
+use Rattle.script_text.specs.Readings.{◌>>=◌, found}
 use Rattle.script_text.specs.Words.{words_of, is_comment, is_option, is_printable}
 use Rattle.script_text.specs.declared.options.Verb.{Verb}
 use Rattle.script_text.specs.declared.options.Verb.TheVariants as verb
@@ -85,13 +85,6 @@ packet_line interfaces (name ∷ queue ∷ digits ∷ []) =
     else packet_of interfaces name queue digits
 packet_line interfaces _ = Err 3
 
--- `send NAME QUEUE FILE`; the file's name is printable as the line is
-unfoldable pub send_line : List Interface → List (List ℕ) → Result What ℕ
-send_line interfaces (name ∷ queue ∷ file ∷ []) =
-    if is_option name || is_option queue || is_option file then Err 3
-    else (keeps 1 (list_all is_printable file) >>= λ _. hand_in_of interfaces name queue >>= λ processor. Ok (what.Send processor file))
-send_line interfaces _ = Err 3
-
 -- `barrier`
 abbrev pub barrier_line : List (List ℕ) → Result What ℕ
 barrier_line [] = Ok what.Barrier
@@ -105,7 +98,6 @@ unfoldable pub what_of : List Interface → List ℕ → List (List ℕ) → Res
 what_of interfaces command words =
     if bytes_eq command (codes "xdp-filter") then filter_line words >>= as_command
     else if bytes_eq command (codes "packet") then packet_line interfaces words
-    else if bytes_eq command (codes "send") then send_line interfaces words
     else if bytes_eq command (codes "barrier") then barrier_line words
     else Err 2
 

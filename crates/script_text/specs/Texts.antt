@@ -8,10 +8,6 @@ use Rattle.xdp_state.specs.declared.judgement.Reason.TheVariants.{NoInterface, B
 use Rattle.xdp_state.specs.declared.tally.Tally.{Tally}
 use Rattle.xio.specs.declared.action.Action.{Action}
 use Rattle.xio.specs.declared.action.Action.TheVariants.{Aborted, Drop, Pass, Tx, Redirect}
-use Rattle.script_text.specs.declared.outcome.HandEnd.{HandEnd}
-use Rattle.script_text.specs.declared.outcome.HandEnd.TheVariants as end
-use Rattle.script_text.specs.declared.outcome.LimitName.{LimitName}
-use Rattle.script_text.specs.declared.outcome.LimitName.TheVariants as limit
 use Rattle.script_text.specs.declared.outcome.Outcome.{Outcome}
 use Rattle.script_text.specs.declared.outcome.Outcome.TheVariants as outcome
 use Rattle.script_text.specs.Vocabulary.{action_name}
@@ -55,28 +51,12 @@ counted line word count = decimal line ++ (word ++ (decimal count ++ codes "\n")
 abbrev pub refused_text : ℕ → Reason → List ℕ
 refused_text line reason = (decimal line ++ codes " refused ") ++ (reason_text reason ++ codes "\n")
 
-abbrev pub limit_name : LimitName → List ℕ
-limit_name limit.Packets = codes "packets"
-limit_name limit.FrameBytes = codes "bytes"
-limit_name limit.Capture = codes "capture"
-
--- how a hand-in ended, if not with its last packet
-unfoldable pub hand_end_text : HandEnd → List ℕ
-hand_end_text end.Whole = codes ""
-hand_end_text (end.BadCapture offset rule) = rule_text (codes ", bad capture at ") offset (codes ": rule P") rule
-hand_end_text end.ReadFault = codes ", read fault"
-hand_end_text (end.Limit limit) = codes ", limit " ++ limit_name limit
-
-abbrev pub handed_text : ℕ → ℕ → HandEnd → List ℕ
-handed_text line packets end =
-    (decimal line ++ (codes " handed " ++ decimal packets)) ++ (hand_end_text end ++ codes "\n")
-
 -- what came of a line, without the lines of a table or of processors
 unfoldable pub outcome_text : ℕ → Outcome → List ℕ
 outcome_text line (outcome.Ok number) = counted line (codes " ok ") number
 outcome_text line outcome.Shown = decimal line ++ codes " ok\n"
 outcome_text line (outcome.Refused reason) = refused_text line reason
-outcome_text line (outcome.Handed packets end) = handed_text line packets end
+outcome_text line (outcome.Handed packets) = counted line (codes " handed ") packets
 outcome_text line (outcome.Barrier count) = counted line (codes " barrier ") count
 
 -- the script's end

@@ -44,9 +44,7 @@ pub use chains::{chain_print, chain_text, chains_print};
 pub use frame::Frame;
 pub use laws::reads_back;
 pub use objects::NameList;
-pub use outcome::{
-    HandEnd, LimitName, Outcome, end_print, end_text, limit_name, outcome_print, outcome_text,
-};
+pub use outcome::{Outcome, end_print, end_text, outcome_print, outcome_text};
 pub use processor::{processor_line, processor_print};
 pub use script::{Script, ScriptEnd, read_script};
 pub use table::{rules_print, rules_text};

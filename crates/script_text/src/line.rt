@@ -1,8 +1,8 @@
 ghost use Rattle.std.specs.Prelude.{◌≡◌, ◌+◌, ◌≤◌, ℕ, true, length, Err, IfOk, OnOk, OnErr};
-ghost use Rattle.script_text.specs.Handed.{IsSound, asks_frame, asks_processor, asks_file, asks_flags};
+ghost use Rattle.script_text.specs.Handed.{IsSound, asks_frame, asks_processor, asks_flags};
 ghost use Rattle.script_text.specs.Interfaces.{queue_count, packet_of};
 ghost use Rattle.script_text.specs.Readings.{Leads, Reads};
-ghost use Rattle.script_text.specs.Script.{dump_line, interface_line, loader_line, packet_line, send_line, start_line, what_of, read_line};
+ghost use Rattle.script_text.specs.Script.{dump_line, interface_line, loader_line, packet_line, start_line, what_of, read_line};
 ghost use Rattle.script_text.specs.declared.reading.LineEnd.TheVariants.{BadLine};
 ghost use Rattle.script_text.specs.WordViews.{arranged_of};
 ghost use Rattle.script_text.specs.Words.{words_of};
@@ -15,7 +15,7 @@ use crate::interfaces::{hand_in_of, interface_of};
 use crate::loader::loader_command;
 use crate::objects::add_object;
 use crate::options::{Verb, dump_verb_of, loader_verb_of};
-use crate::reading::{LineEnd, keeps};
+use crate::reading::LineEnd;
 use crate::rule::{BAD_BYTE, BAD_FORM, BAD_FRAME, UNKNOWN};
 use crate::script::Script;
 use crate::text::bytes_of;
@@ -140,7 +140,6 @@ fn packet_of(
 ) -> Result<What, LineEnd>
     requires { queue_count interfaces.now ≤ 8 }
     ensures what { Reads result (packet_of interfaces.now name.now queue.now digits.now) }
-    ensures file { IfOk result (λ what. asks_file what ≡ true) }
     ensures frame { IfOk result (λ what. asks_frame what ≡ true) }
     ensures processor { IfOk result (λ what. asks_processor (queue_count interfaces.now) what ≡ true) }
     ensures flags { IfOk result (λ what. asks_flags what ≡ true) }
@@ -160,7 +159,6 @@ fn packet_of(
 fn packet_line(alloc: Global, interfaces: &[Interface], words: &[u8]) -> Result<What, LineEnd>
     requires { queue_count interfaces.now ≤ 8 }
     ensures what { Reads result (packet_line interfaces.now (words_of words.now)) }
-    ensures file { IfOk result (λ what. asks_file what ≡ true) }
     ensures frame { IfOk result (λ what. asks_frame what ≡ true) }
     ensures processor { IfOk result (λ what. asks_processor (queue_count interfaces.now) what ≡ true) }
     ensures flags { IfOk result (λ what. asks_flags what ≡ true) }
@@ -180,37 +178,6 @@ fn packet_line(alloc: Global, interfaces: &[Interface], words: &[u8]) -> Result<
     packet_of(alloc, interfaces, name, queue, digits)
 }
 
-/// Reads `NAME QUEUE FILE`.
-#[tactic(auto, unfolding(crate::specs::Script::send_line))]
-fn send_line(alloc: Global, interfaces: &[Interface], words: &[u8]) -> Result<What, LineEnd>
-    requires { queue_count interfaces.now ≤ 8 }
-    ensures what { Reads result (send_line interfaces.now (words_of words.now)) }
-    ensures file { IfOk result (λ what. asks_file what ≡ true) }
-    ensures frame { IfOk result (λ what. asks_frame what ≡ true) }
-    ensures processor { IfOk result (λ what. asks_processor (queue_count interfaces.now) what ≡ true) }
-    ensures flags { IfOk result (λ what. asks_flags what ≡ true) }
-{
-    let Some((name, behind)) = next_word(words) else {
-        return Err(LineEnd::BadLine { rule: BAD_FORM });
-    };
-    let Some((queue, behind)) = next_word(behind) else {
-        return Err(LineEnd::BadLine { rule: BAD_FORM });
-    };
-    let Some((file, behind)) = next_word(behind) else {
-        return Err(LineEnd::BadLine { rule: BAD_FORM });
-    };
-    if next_word(behind).is_some() || is_option(name) || is_option(queue) || is_option(file) {
-        return Err(LineEnd::BadLine { rule: BAD_FORM });
-    }
-    keeps(BAD_BYTE, are_printable(file))?;
-    let processor = match hand_in_of(interfaces, name, queue) {
-        Ok(processor) => processor,
-        Err(rule) => return Err(LineEnd::BadLine { rule }),
-    };
-    let file = bytes_of(alloc, file)?;
-    Ok(What::Send { processor, file })
-}
-
 /// Reads a line that asks for something, by its first word and those behind it.
 #[tactic(auto, unfolding(crate::specs::Script::what_of))]
 fn what_of(
@@ -221,7 +188,6 @@ fn what_of(
 ) -> Result<What, LineEnd>
     requires { queue_count interfaces.now ≤ 8 }
     ensures what { Reads result (what_of interfaces.now command.now (words_of words.now)) }
-    ensures file { IfOk result (λ what. asks_file what ≡ true) }
     ensures frame { IfOk result (λ what. asks_frame what ≡ true) }
     ensures processor { IfOk result (λ what. asks_processor (queue_count interfaces.now) what ≡ true) }
     ensures flags { IfOk result (λ what. asks_flags what ≡ true) }
@@ -231,9 +197,6 @@ fn what_of(
     }
     if command == b"packet".as_slice() {
         return packet_line(alloc, interfaces, words);
-    }
-    if command == b"send".as_slice() {
-        return send_line(alloc, interfaces, words);
     }
     if command != b"barrier".as_slice() {
         return Err(LineEnd::BadLine { rule: UNKNOWN });

@@ -1,44 +1,12 @@
 ghost use Rattle.std.specs.Prelude.{◌≡◌, IfOk};
-ghost use Rattle.script_text.specs.Texts.{counted, hand_end_text, handed_text, limit_name, outcome_text, reason_text, refused_text, end_text};
+ghost use Rattle.script_text.specs.Texts.{counted, outcome_text, reason_text, refused_text, end_text};
 ghost use Rattle.xio.specs.Printing.{Prints};
 
 use crate::piece::{Piece, print_line};
-use crate::refusal::{print_rule, refusal_print};
+use crate::refusal::refusal_print;
 use std::alloc::Global;
 use xdp_state::Reason;
 use xio::{Bytes, OutOfMemory, Printer};
-
-/// How a hand-in ended.
-#[derive(Clone, Copy, Debug, PartialEq, Eq)]
-pub enum HandEnd {
-    /// With its last packet.
-    Whole,
-    /// At the block from this byte of the packet file on, which breaks a rule.
-    BadCapture { offset: u64, rule: u8 },
-    /// Its file wasn't opened, or not read to its end.
-    ReadFault,
-    /// Before a packet, or a block, that passes a limit.
-    Limit(LimitName),
-}
-
-/// What is limited of hand-ins: the packets of a run, the bytes of their frames, and the bytes of a packet file.
-#[derive(Clone, Copy, Debug, PartialEq, Eq)]
-pub enum LimitName {
-    Packets,
-    FrameBytes,
-    Capture,
-}
-
-/// The name of a limit.
-pub fn limit_name(limit: LimitName) -> &'static [u8]
-    ensures { result.now ≡ limit_name limit }
-{
-    match limit {
-        LimitName::Packets => b"packets",
-        LimitName::FrameBytes => b"bytes",
-        LimitName::Capture => b"capture",
-    }
-}
 
 /// What came of a line of the script.
 #[derive(Clone, Copy, Debug, PartialEq, Eq)]
@@ -49,8 +17,8 @@ pub enum Outcome {
     Shown,
     /// A command was refused.
     Refused(Reason),
-    /// Packets were handed in, and why no more of them.
-    Handed { packets: u32, end: HandEnd },
+    /// Packets were handed in.
+    Handed { packets: u32 },
     /// A phase ended, after so many publications.
     Barrier(u32),
 }
@@ -94,50 +62,6 @@ fn refused_print<P: Printer>(printer: &mut P, line: u32, reason: Reason) -> Resu
     printer.print(b"\n")
 }
 
-/// Prints how a hand-in ended, if not with its last packet.
-#[tactic(auto, unfolding(crate::specs::Texts::hand_end_text))]
-fn hand_end_print<P: Printer>(printer: &mut P, end: HandEnd) -> Result<(), P::End>
-    ensures { Prints P.tells P.counts (P.state printer.old) (P.state printer.new) (hand_end_text end) result }
-{
-    match end {
-        HandEnd::Whole => printer.print(b""),
-        HandEnd::BadCapture { offset, rule } => print_rule(
-            printer,
-            b", bad capture at ",
-            offset,
-            b": rule P",
-            u32::from(rule),
-        ),
-        HandEnd::ReadFault => printer.print(b", read fault"),
-        HandEnd::Limit(limit) => print_line(
-            printer,
-            &[Piece::Text(b", limit "), Piece::Text(limit_name(limit))],
-        ),
-    }
-}
-
-/// Prints the line of a hand-in.
-#[tactic(auto, using(xio::proofs::PrintLemmas::printing))]
-fn handed_print<P: Printer>(
-    printer: &mut P,
-    line: u32,
-    packets: u32,
-    end: HandEnd,
-) -> Result<(), P::End>
-    ensures { Prints P.tells P.counts (P.state printer.old) (P.state printer.new) (handed_text line packets end) result }
-{
-    print_line(
-        printer,
-        &[
-            Piece::Number(u128::from(line)),
-            Piece::Text(b" handed "),
-            Piece::Number(u128::from(packets)),
-        ],
-    )?;
-    hand_end_print(printer, end)?;
-    printer.print(b"\n")
-}
-
 /// Prints a line that ends with a count.
 fn print_counted<P: Printer>(
     printer: &mut P,
@@ -174,7 +98,7 @@ pub fn outcome_print<P: Printer>(
             &[Piece::Number(u128::from(line)), Piece::Text(b" ok\n")],
         ),
         Outcome::Refused(reason) => refused_print(printer, line, *reason),
-        Outcome::Handed { packets, end } => handed_print(printer, line, *packets, *end),
+        Outcome::Handed { packets } => print_counted(printer, line, b" handed ", *packets),
         Outcome::Barrier(count) => print_counted(printer, line, b" barrier ", *count),
     }
 }

@@ -45,7 +45,7 @@ pub(crate) fn refusal_print<P: Printer>(printer: &mut P, refusal: LoadRefusal) -
 }
 
 /// Prints a place, and a rule or another place.
-pub(crate) fn print_rule<'a, P: Printer>(
+fn print_rule<'a, P: Printer>(
     printer: &mut P,
     word: &'a [u8],
     place: u64,

@@ -1,7 +1,7 @@
 ghost use Rattle.std.specs.Prelude.{◌≡◌, ◌+◌, ◌≤◌, true, length, IfOk};
 ghost use Rattle.std.specs.List.{list_all};
 ghost use Rattle.std.specs.Str.Lines.{lines};
-ghost use Rattle.script_text.specs.Handed.{are_printable, has_file, has_frame, has_processor, has_flags};
+ghost use Rattle.script_text.specs.Handed.{are_printable, has_frame, has_processor, has_flags};
 ghost use Rattle.script_text.specs.Interfaces.{queue_count};
 ghost use Rattle.script_text.specs.Script.{script_of, bad_script, Agrees};
 
@@ -46,7 +46,6 @@ pub fn read_script(alloc: Global, bytes: &[u8]) -> Result<Script, ScriptEnd>
     ensures rules { IfOk result (λ script. list_all has_flags script.lines ≡ true) }
     ensures lines { IfOk result (λ script. length script.lines ≤ 65536) }
     ensures objects { IfOk result (λ script. are_printable script.objects ≡ true) }
-    ensures files { IfOk result (λ script. list_all has_file script.lines ≡ true) }
     ensures interfaces { IfOk result (λ script. length script.interfaces ≤ 8) }
     ensures queues { IfOk result (λ script. queue_count script.interfaces ≤ 8) }
 {

@@ -1,6 +1,6 @@
 use crate::frame::Frame;
 use xdp_state::Command;
-use xio::{Bytes, List};
+use xio::List;
 
 /// What a line of the script asks.
 #[derive(Debug, Drop)]
@@ -8,8 +8,6 @@ pub enum What {
     Command(Command),
     /// A packet is handed in to the processor of its queue.
     Packet { processor: u32, frame: Frame },
-    /// The packets of a file are handed in to the processor of their queue.
-    Send { processor: u32, file: Bytes },
     Barrier,
 }
 

@@ -4,8 +4,7 @@ use elf_objects::BadElf;
 use filter_rules::{Policy, RuleKey};
 use object_load::LoadRefusal;
 use script_text::{
-    HandEnd, LimitName, Outcome, TraceRow, end_text, outcome_text, processor_line, rules_text,
-    trace_line,
+    Outcome, TraceRow, end_text, outcome_text, processor_line, rules_text, trace_line,
 };
 use std::alloc::Global;
 use std::test::Fail;
@@ -26,9 +25,10 @@ fn is_end(alloc: Global, count: u32, wanted: &str) -> bool {
     }
 }
 
-const OUTCOMES: [(Outcome, &str); 4] = [
+const OUTCOMES: [(Outcome, &str); 5] = [
     (Outcome::Ok(1), "7 ok 1\n"),
     (Outcome::Shown, "7 ok\n"),
+    (Outcome::Handed { packets: 3 }, "7 handed 3\n"),
     (Outcome::Barrier(4), "7 barrier 4\n"),
     (
         Outcome::Refused(Reason::BadObject(LoadRefusal::NoProgram)),
@@ -42,38 +42,6 @@ fn outcomes(rt: HostRuntime) {
         assert!(rt; is_outcome(rt.alloc(), &outcome, wanted), "{wanted}");
     }
     assert!(rt; is_end(rt.alloc(), 2, "end 2\n"));
-}
-
-const ENDS: [(HandEnd, &str); 6] = [
-    (HandEnd::Whole, "7 handed 3\n"),
-    (
-        HandEnd::BadCapture {
-            offset: 144,
-            rule: 5,
-        },
-        "7 handed 3, bad capture at 144: rule P5\n",
-    ),
-    (HandEnd::ReadFault, "7 handed 3, read fault\n"),
-    (
-        HandEnd::Limit(LimitName::Packets),
-        "7 handed 3, limit packets\n",
-    ),
-    (
-        HandEnd::Limit(LimitName::FrameBytes),
-        "7 handed 3, limit bytes\n",
-    ),
-    (
-        HandEnd::Limit(LimitName::Capture),
-        "7 handed 3, limit capture\n",
-    ),
-];
-
-#[test]
-fn ends_of_hand_ins(rt: HostRuntime) {
-    for (end, wanted) in ENDS {
-        let outcome = Outcome::Handed { packets: 3, end };
-        assert!(rt; is_outcome(rt.alloc(), &outcome, wanted), "{wanted}");
-    }
 }
 
 const REASONS: [(Reason, &str); 13] = [
