@@ -1,12 +1,13 @@
 //! Rows under keys, found by their hashes.
 
-ghost use Rattle.std.specs.Prelude.{◌≡◌, ◌+◌, ◌<◌, ◌≤◌, ◌↔◌, true, false, ◌++◌, [], ◌∷◌, length, drop, slice_get, Some, IsOk, IfOk, IfSome, OnOk, OnErr, IsErr};
+ghost use Rattle.std.specs.Prelude.{◌≡◌, ◌+◌, ◌<◌, ◌≤◌, ◌↔◌, true, false, [], length, slice_get, Some, IsOk, IfOk, IfSome, OnOk, OnErr, IsErr};
 ghost use Rattle.std.specs.List.{remove, IsDistinct};
 ghost use Rattle.std.specs.Map.{keys_of, lookup, remove_entry};
 ghost use Rattle.std.specs.Option.{option_map};
 ghost use Rattle.indexmap.specs.IndexMap.{index_map_len, spare};
-ghost use Rattle.filter_rules.specs.Table.{place_of, is_there, has_flag, with_flags, set_row, clear_row};
+ghost use Rattle.filter_rules.specs.Table.{place_of, is_there, has_flag, number_at, set_row, clear_row};
 
+use crate::rule::RuleKey;
 use crate::rules::{NoSuchRule, RulesFull};
 use indexmap::IndexMap;
 use std::alloc::Global;
@@ -37,7 +38,7 @@ pub struct RuleTable<K: Eq + Hash + Drop> {
 }
 
 impl<K: Eq + Hash + Drop> Model for RuleTable<K> {
-    ghost use Rattle.std.specs.Prelude.{◌≡◌, ◌≤◌, ◌+◌, []};
+    ghost use Rattle.std.specs.Prelude.{◌≡◌, ◌≤◌, ◌<◌, ◌+◌, ◌^◌, []};
     ghost use Rattle.indexmap.specs.IndexMap.{index_map_len, spare};
     ghost use Rattle.filter_rules.specs.Table.{Table};
 
@@ -45,8 +46,29 @@ impl<K: Eq + Hash + Drop> Model for RuleTable<K> {
 
     ghost view = { λ t. record { rows = t.rows.entries; room = t.room } };
 
-    ghost invariant = { λ t. (index_map_len t.rows ≤ t.room) × (t.room ≤ index_map_len t.rows + spare t.rows)
+    ghost invariant = { λ t. (t.room < 2 ^ 32) × (index_map_len t.rows ≤ t.room) × (t.room ≤ index_map_len t.rows + spare t.rows)
         × (t.other.entries ≡ []) × (t.room ≤ spare t.other) };
+}
+
+impl RuleTable<RuleKey> {
+    /// The same rows with the same room, from the memory that these rows take theirs from.
+    pub(crate) fn copy(&self) -> Result<Self, OutOfMemory>
+        ensures { IfOk result (λ copy. copy ≡ self.now) }
+    {
+        let room = self.room as usize;
+        let mut rows = self.rows.clone()?;
+        rows.reserve(room - self.rows.len())?;
+        let other = IndexMap::with_capacity_and_hasher(
+            *self.rows.allocator(),
+            room,
+            Hashing::new(),
+        )?;
+        Ok(RuleTable {
+            rows,
+            other,
+            room: self.room,
+        })
+    }
 }
 
 impl<K: Eq + Hash + Drop> RuleTable<K> {
@@ -60,17 +82,6 @@ impl<K: Eq + Hash + Drop> RuleTable<K> {
             other: IndexMap::with_capacity_and_hasher(alloc, rows as usize, hashing)?,
             room: rows,
         })
-    }
-
-    /// The same rows with the same room, from the memory that these rows take theirs from.
-    pub fn copy(&self) -> Result<Self, OutOfMemory>
-    where
-        K: Copy,
-        ensures { IfOk result (λ copy. copy ≡ self.now) }
-    {
-        let mut copy = RuleTable::new(*self.rows.allocator(), self.room)?;
-        copy.rows.extend(&self.rows)?;
-        Ok(copy)
     }
 
     pub fn len(&self) -> u32
@@ -126,20 +137,19 @@ impl<K: Eq + Hash + Drop> RuleTable<K> {
     /// Sets flags in the row of the key, or makes a row of this number, and answers the row's number.
     pub fn add(&mut self, key: K, flags: u8, number: u32) -> Result<u32, RulesFull>
         ensures rows { OnOk result (self.new ≡ record self.old { rows = set_row K.eq self.old.rows key flags number }) }
-        ensures number { IfOk result (λ n. n ≡ (with_flags K.eq self.old.rows key flags number).number) }
+        ensures number { IfOk result (λ n. n ≡ number_at K.eq self.old.rows key number) }
         ensures full { IsErr result ↔ ((is_there K.eq self.old.rows key ≡ false) × (length self.old.rows ≡ self.old.room)) }
         ensures err { OnErr result (self.new ≡ self.old) }
     {
-        let value = match self.get(&key) {
-            Some(value) => RowValue {
-                flags: value.flags | flags,
-                ..value
-            },
-            None if self.len() == self.room => return Err(RulesFull),
-            None => RowValue { flags, number },
-        };
-        self.rows.insert(key, value).unwrap();
-        Ok(value.number)
+        if let Some(value) = self.rows.get_mut(&key) {
+            value.flags |= flags;
+            return Ok(value.number);
+        }
+        if self.len() == self.room {
+            return Err(RulesFull);
+        }
+        self.rows.insert(key, RowValue { flags, number }).unwrap();
+        Ok(number)
     }
 
     /// Clears flags in the row of the key, and drops the row where it has no flag left.
@@ -147,6 +157,7 @@ impl<K: Eq + Hash + Drop> RuleTable<K> {
         ensures rows { OnOk result (self.new ≡ record self.old { rows = clear_row K.eq self.old.rows key.now flags }) }
         ensures none { IsErr result ↔ (has_flag K.eq self.old.rows key.now flags ≡ false) }
         ensures err { OnErr result (self.new ≡ self.old) }
+        ensures different { IsDistinct K.eq (keys_of self.old.rows) }
     {
         let Some(value) = self.get(key) else {
             return Err(NoSuchRule);
@@ -196,9 +207,9 @@ fn move_others<K: Eq + Hash + Drop>(
     ensures from_room { index_map_len from.old + spare from.old ≤ spare from.new }
 {
     let rows = from.len();
-    let mut rest = from.drain(..);
+    let mut moving = from.drain(..);
     for index in 0..rows {
-        let (key, value) = rest.next().unwrap();
+        let (key, value) = moving.next().unwrap();
         if index != place {
             to.insert(key, value).unwrap();
         }

@@ -1,8 +1,6 @@
 //! The questions of a filter about a frame, and what their answers make of it.
 
-ghost use Rattle.std.specs.Prelude.{◌≡◌, [], ◌∷◌, find};
-ghost use Rattle.std.specs.Option.{option_map};
-ghost use Rattle.filter_rules.specs.Rule.{answers};
+ghost use Rattle.std.specs.Prelude.{◌≡◌, [], ◌∷◌};
 ghost use Rattle.filter_rules.specs.Verdict.{Ask, ethernet_items, net_items, port_items, decided, verdict};
 
 use crate::policy::Policy;
@@ -113,16 +111,11 @@ fn by_pair(rules: &Rules, policy: Policy, first: Question, second: Question) -> 
     ensures { result ≡ decided rules.now policy
         (Ask first.key first.flag ∷ Ask second.key second.flag ∷ []) }
 {
-    let rule = asked(rules, first).or_else(|| asked(rules, second))?;
+    let rule = rules
+        .answering(first.key, first.flag)
+        .or_else(|| rules.answering(second.key, second.flag))?;
     Some(FilterEnd::Hit {
         rule,
         action: policy.hit(),
     })
-}
-
-/// The number of the row that answers.
-fn asked(rules: &Rules, question: Question) -> Option<u32>
-    ensures { result ≡ option_map (λ row. row.number) (find (answers question.key question.flag) rules.now) }
-{
-    rules.answering(question.key, question.flag)
 }
