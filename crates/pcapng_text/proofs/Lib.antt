@@ -5,4 +5,5 @@ pub mod Steps
 pub mod Walk
 pub mod Next
 pub mod Lengths
+pub mod Frames
 pub mod ReadBack
