@@ -1,9 +1,8 @@
 //! The blocks of a point.
 
-ghost use Rattle.std.specs.Prelude.{◌≡◌, ◌<◌, ◌^◌, ◌++◌, IfOk, length};
-ghost use Rattle.pcapng_text.specs.Written.{packet_size};
+ghost use Rattle.std.specs.Prelude.{◌≡◌, ◌++◌, IfOk};
 ghost use Rattle.dump_capture.specs.Capture.{interface_block, packet_block};
-ghost use Rattle.dump_capture.specs.Key.{if_name};
+ghost use Rattle.dump_capture.specs.Key.{side_text};
 ghost use Rattle.dump_capture.specs.Point.{point_of};
 ghost use Rattle.xio.specs.Printing.{Prints};
 
@@ -13,25 +12,27 @@ use pcapng_text::{interface_print, packet_print};
 use std::alloc::Global;
 use xio::Printer;
 
+fn side_text(exit: bool) -> &'static [u8]
+    ensures { result.now ≡ side_text exit }
+{
+    if exit { b"exit" } else { b"entry" }
+}
+
 /// Prints the interface block of a point.
-#[tactic(auto, unfolding(crate::specs::Key::if_name))]
 pub(crate) fn interface_block_print<P: Printer>(
     printer: &mut P,
     point: &Point<'_>,
 ) -> Result<(), P::End>
-    requires { length (if_name (point_of point.now)) < 2 ^ 16 }
     ensures { Prints P.tells P.counts (P.state printer.old) (P.state printer.new) (interface_block (point_of point.now)) result }
 {
-    let side = if point.exit {
-        b"exit".as_slice()
-    } else {
-        b"entry".as_slice()
-    };
-    interface_print(
-        printer,
-        &[point.interface, b":", point.name, b"()@", side],
-        point.snap,
-    )
+    let name = [
+        point.interface,
+        b":",
+        point.name,
+        b"()@",
+        side_text(point.exit),
+    ];
+    interface_print(printer, &name, point.snap)
 }
 
 /// Prints the packet of a point on the interface of a number.
@@ -40,7 +41,6 @@ pub(crate) fn packet_block_print<P: Printer>(
     number: u32,
     point: &Point<'_>,
 ) -> Result<(), P::End>
-    requires { packet_size point.now.kept.now point.now.options < 2 ^ 32 }
     ensures { Prints P.tells P.counts (P.state printer.old) (P.state printer.new) (packet_block number (point_of point.now)) result }
 {
     packet_print(
@@ -59,8 +59,6 @@ pub(crate) fn blocks_print<P: Printer>(
     number: u32,
     point: &Point<'_>,
 ) -> Result<(), P::End>
-    requires name { length (if_name (point_of point.now)) < 2 ^ 16 }
-    requires size { packet_size point.now.kept.now point.now.options < 2 ^ 32 }
     ensures { Prints P.tells P.counts (P.state printer.old) (P.state printer.new) (interface_block (point_of point.now) ++ packet_block number (point_of point.now)) result }
 {
     interface_block_print(printer, point)?;
@@ -69,7 +67,6 @@ pub(crate) fn blocks_print<P: Printer>(
 
 /// The interface block of a point.
 pub(crate) fn interface_block(alloc: Global, point: &Point<'_>) -> Result<Bytes, OutOfMemory>
-    requires { length (if_name (point_of point.now)) < 2 ^ 16 }
     ensures { IfOk result (λ block. block ≡ interface_block (point_of point.now)) }
 {
     let mut block = Bytes::new(alloc);
@@ -83,7 +80,6 @@ pub(crate) fn packet_block(
     number: u32,
     point: &Point<'_>,
 ) -> Result<Bytes, OutOfMemory>
-    requires { packet_size point.now.kept.now point.now.options < 2 ^ 32 }
     ensures { IfOk result (λ block. block ≡ packet_block number (point_of point.now)) }
 {
     let mut block = Bytes::new(alloc);

@@ -78,7 +78,6 @@ fn put_packet<K: Sink>(
     point: &Point<'_>,
     sink: &mut K,
 ) -> Result<(), PutEnd>
-    requires { packet_size point.now.kept.now point.now.options < 2 ^ 32 }
     ensures held { IsTrue K.tells → Puts (K.held sink.old) (K.held sink.new) result (packet_block number (point_of point.now)) }
     ensures within { StopsBetween 0 (length (packet_block number (point_of point.now))) result }
     ensures same_flushed { IsTrue K.tells → K.flushed sink.new ≡ K.flushed sink.old }
@@ -97,10 +96,8 @@ fn put_first<K: Sink>(
     sink: &mut K,
 ) -> Result<(), PutEnd>
     requires few { length keys.old.items < 2 ^ 32 }
-    requires name { length (if_name (point_of point.now)) < 2 ^ 16 }
-    requires size { packet_size point.now.kept.now point.now.options < 2 ^ 32 }
-    ensures held { IsTrue K.tells → Puts (K.held sink.old) (K.held sink.new) result (interface_block point.now ++ packet_block (length keys.old.items) (point_of point.now)) }
-    ensures within { StopsBetween 0 (length (interface_block point.now ++ packet_block (length keys.old.items) (point_of point.now))) result }
+    ensures held { IsTrue K.tells → Puts (K.held sink.old) (K.held sink.new) result (interface_block (point_of point.now) ++ packet_block (length keys.old.items) (point_of point.now)) }
+    ensures within { StopsBetween 0 (length (interface_block (point_of point.now) ++ packet_block (length keys.old.items) (point_of point.now))) result }
     ensures keys { keys.new.items ≡ (if is_ok result then keys.old.items ++ key_of (point_of point.now) ∷ [] else keys.old.items) }
     ensures few { length keys.new.items < 2 ^ 32 }
     ensures same_flushed { IsTrue K.tells → K.flushed sink.new ≡ K.flushed sink.old }
@@ -121,6 +118,45 @@ fn put_first<K: Sink>(
         }
         Err(end) => Err(end),
     }
+}
+
+/// Writes the blocks of a point: a packet, behind its interface block where that isn't written yet.
+fn put_blocks<K: Sink>(
+    alloc: Global,
+    keys: &mut Vec<Key>,
+    point: &Point<'_>,
+    sink: &mut K,
+) -> Result<(), PutEnd>
+    requires few { length keys.old.items < 2 ^ 32 }
+    ensures held { IsTrue K.tells → Puts (K.held sink.old) (K.held sink.new) result (blocks_of keys.old.items (point_of point.now)) }
+    ensures within { StopsBetween 0 (length (blocks_of keys.old.items (point_of point.now))) result }
+    ensures keys { keys.new.items ≡ (if is_ok result then keys_after keys.old.items (point_of point.now) else keys.old.items) }
+    ensures few { length keys.new.items < 2 ^ 32 }
+    ensures same_flushed { IsTrue K.tells → K.flushed sink.new ≡ K.flushed sink.old }
+    ensures cause { HasPutCause (K.faults sink.old) (K.faults sink.new) result }
+    ensures same_setting { K.setting sink.new ≡ K.setting sink.old }
+{
+    match number_of(keys, point) {
+        Some(number) => put_packet(alloc, number as u32, point, sink),
+        None => put_first(alloc, keys, point, sink),
+    }
+}
+
+/// Takes the memory of a point's key, where it isn't among these.
+fn reserve_key(alloc: Global, keys: &mut Vec<Key>, point: &Point<'_>) -> Result<(), OutOfMemory>
+    requires few { length keys.old.items < 2 ^ 32 }
+    ensures keys { keys.new.items ≡ (if is_ok result then keys_after keys.old.items (point_of point.now) else keys.old.items) }
+    ensures few { length keys.new.items < 2 ^ 32 }
+{
+    if number_of(keys, point).is_some() {
+        return Ok(());
+    }
+    if keys.len() == u32::MAX as usize {
+        return Err(OutOfMemory);
+    }
+    let key = key_of(alloc, point)?;
+    keys.push(key)?;
+    Ok(())
 }
 
 impl Capture {
@@ -162,14 +198,9 @@ impl Capture {
         ensures cause { HasPutCause (K.faults sink.old) (K.faults sink.new) result }
         ensures same_setting { K.setting sink.new ≡ K.setting sink.old }
     {
-        match number_of(&self.keys, point) {
-            Some(number) => put_packet(self.alloc, number as u32, point, sink),
-            None => {
-                let end = put_first(self.alloc, &mut self.keys, point, sink);
-                self.written = self.keys.len();
-                end
-            }
-        }
+        let end = put_blocks(self.alloc, &mut self.keys, point, sink);
+        self.written = self.keys.len();
+        end
     }
 
     /// Takes the memory that printing a point wants. After an error the capture is as before.
@@ -177,23 +208,13 @@ impl Capture {
         ensures known { self.new.known ≡ (if is_ok result then keys_after self.old.known (point_of point.now) else self.old.known) }
         ensures written { self.new.written ≡ self.old.written }
     {
-        if number_of(&self.keys, point).is_some() {
-            return Ok(());
-        }
-        if self.keys.len() == u32::MAX as usize {
-            return Err(OutOfMemory);
-        }
-        let key = key_of(self.alloc, point)?;
-        self.keys.push(key)?;
-        Ok(())
+        reserve_key(self.alloc, &mut self.keys, point)
     }
 
     /// Prints a packet, behind its interface block where that isn't written yet. Points are printed in the order in
     /// which they were reserved. After an error the capture is as before.
     pub fn print<P: Printer>(&mut self, point: &Point<'_>, printer: &mut P) -> Result<(), P::End>
         requires reserved { AreReserved self.old (point_of point.now ∷ []) }
-        requires name { length (if_name (point_of point.now)) < 2 ^ 16 }
-        requires size { packet_size point.now.kept.now point.now.options < 2 ^ 32 }
         ensures prints { Prints P.tells P.counts (P.state printer.old) (P.state printer.new) (blocks_of self.old.written (point_of point.now)) result }
         ensures written { self.new.written ≡ (if is_ok result then keys_after self.old.written (point_of point.now) else self.old.written) }
         ensures known { self.new.known ≡ self.old.known }

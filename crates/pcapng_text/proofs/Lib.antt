@@ -6,4 +6,6 @@ pub mod Walk
 pub mod Next
 pub mod Lengths
 pub mod Frames
+pub mod Printed
+pub mod Joins
 pub mod ReadBack

@@ -55,7 +55,7 @@ const XDP_ACTION: u8 = 2;
 const END_OF_OPTIONS: u32 = 0;
 
 /// Prints the section header that a capture begins with.
-#[tactic(auto, unfolding(crate::specs::Written::section_bytes))]
+#[tactic(auto, unfolding(crate::specs::Written::section_bytes, crate::specs::Written::block_bytes, crate::specs::Written::block_size, crate::specs::Written::padding, crate::specs::Options::padded))]
 pub fn section_print<P: Printer>(printer: &mut P) -> Result<(), P::End>
     ensures { Prints P.tells P.counts (P.state printer.old) (P.state printer.new) written.section_bytes result }
 {
@@ -73,16 +73,35 @@ pub fn section_print<P: Printer>(printer: &mut P) -> Result<(), P::End>
     )
 }
 
-/// How many bytes the parts have.
-fn joined_size(parts: &[&[u8]]) -> usize
-    requires { length (written.joined parts.now) < 2 ^ 16 }
-    ensures { result ≡ length (written.joined parts.now) }
+/// A length as it is written: modulo 2^32.
+fn low(size: usize) -> u32
+    ensures { result ≡ size % 2 ^ 32 }
+{
+    (size & 0xffff_ffff) as u32
+}
+
+/// And modulo 2^16.
+fn low_half(size: u32) -> u16
+    ensures { result ≡ size % 2 ^ 16 }
+{
+    (size & 0xffff) as u16
+}
+
+/// How many bytes the parts have, modulo 2^32.
+fn joined_size(parts: &[&[u8]]) -> u32
+    ensures { result ≡ length (written.joined parts.now) % 2 ^ 32 }
 {
     let mut size = 0;
     for part in parts {
-        size += part.len();
+        size = sum(size, low(part.len()));
     }
     size
+}
+
+fn sum(left: u32, right: u32) -> u32
+    ensures { result ≡ (left + right) % 2 ^ 32 }
+{
+    left.wrapping_add(right)
 }
 
 /// Prints parts, one behind the other.
@@ -96,29 +115,30 @@ fn print_parts<P: Printer>(printer: &mut P, parts: &[&[u8]]) -> Result<(), P::En
 }
 
 /// The length of an option whose value has so many bytes.
-fn option_size(value: usize) -> usize
-    requires { value < 2 ^ 17 }
+fn option_size(value: u32) -> usize
     ensures { result ≡ 4 + padded value }
 {
-    4 + padded(value)
+    4 + padded(value as usize)
 }
 
-/// Prints the options of an interface. Its name, given in parts, has so many bytes.
-#[tactic(auto, unfolding(crate::specs::Written::option_bytes))]
+/// Prints the options of an interface. Its name, given in parts, has so many bytes modulo 2^32.
 fn interface_options_print<P: Printer>(
     printer: &mut P,
     name: &[&[u8]],
-    name_size: u16,
+    name_size: u32,
 ) -> Result<(), P::End>
-    requires { name_size ≡ length (written.joined name.now) }
+    requires { name_size ≡ length (written.joined name.now) % 2 ^ 32 }
     ensures { Prints P.tells P.counts (P.state printer.old) (P.state printer.new) (written.interface_options (written.joined name.now)) result }
 {
-    print_pieces(printer, &[Piece::U16(IF_NAME), Piece::U16(name_size)])?;
+    print_pieces(
+        printer,
+        &[Piece::U16(IF_NAME), Piece::U16(low_half(name_size))],
+    )?;
     print_parts(printer, name)?;
     print_pieces(
         printer,
         &[
-            Piece::Padding(u32::from(name_size)),
+            Piece::Padding(name_size),
             Piece::U16(IF_TSRESOL),
             Piece::U16(1),
             Piece::U8(NANOSECONDS),
@@ -128,17 +148,17 @@ fn interface_options_print<P: Printer>(
     )
 }
 
-/// The length of the block of an interface with a name of so many bytes.
-fn interface_size(name_size: usize) -> u32
-    requires { name_size < 2 ^ 16 }
-    ensures { result ≡ 36 + padded name_size }
+/// The length of the block of an interface with a name of so many bytes, both modulo 2^32.
+#[tactic(auto, unfolding(crate::specs::Options::padded))]
+fn interface_size(name_size: u32) -> u32
+    ensures { result ≡ (36 + padded name_size) % 2 ^ 32 }
 {
-    (20 + option_size(name_size) + option_size(1) + 4) as u32
+    low(24 + option_size(name_size) + option_size(1))
 }
 
 /// Prints an Ethernet interface with a name, which is given in parts, and a snap length. Its times are in nanoseconds.
+/// A length that its field can't hold is written modulo the field's range.
 pub fn interface_print<P: Printer>(printer: &mut P, name: &[&[u8]], snap: u32) -> Result<(), P::End>
-    requires { length (written.joined name.now) < 2 ^ 16 }
     ensures { Prints P.tells P.counts (P.state printer.old) (P.state printer.new) (written.interface_bytes (written.joined name.now) snap) result }
 {
     let name_size = joined_size(name);
@@ -153,12 +173,12 @@ pub fn interface_print<P: Printer>(printer: &mut P, name: &[&[u8]], snap: u32) -
             Piece::U32(snap),
         ],
     )?;
-    interface_options_print(printer, name, name_size as u16)?;
+    interface_options_print(printer, name, name_size)?;
     printer.print(&size.to_le_bytes())
 }
 
 /// Prints the option of an action, where there is one.
-#[tactic(auto, unfolding(crate::specs::Written::option_bytes))]
+#[tactic(auto, using(xio::proofs::PrintLemmas::printing), unfolding(crate::specs::Written::option_bytes, crate::specs::Written::padding, crate::specs::Options::padded))]
 fn verdict_print<P: Printer>(printer: &mut P, verdict: Option<Action>) -> Result<(), P::End>
     ensures { Prints P.tells P.counts (P.state printer.old) (P.state printer.new) (written.verdict_option verdict) result }
 {
@@ -178,6 +198,7 @@ fn verdict_print<P: Printer>(printer: &mut P, verdict: Option<Action>) -> Result
 }
 
 /// The length of that option.
+#[tactic(auto, using(crate::proofs::Lengths::options))]
 fn verdict_size(verdict: Option<Action>) -> usize
     ensures { result ≡ length (written.verdict_option verdict) }
 {
@@ -188,7 +209,6 @@ fn verdict_size(verdict: Option<Action>) -> usize
 }
 
 /// Prints what is told beside a packet's bytes, with the number of its publication in these digits.
-#[tactic(auto, unfolding(crate::specs::Written::packet_options, crate::specs::Written::option_bytes))]
 fn packet_options_print<P: Printer>(
     printer: &mut P,
     publication: &[u8],
@@ -198,15 +218,15 @@ fn packet_options_print<P: Printer>(
     requires short { length publication.now ≤ 40 }
     ensures { Prints P.tells P.counts (P.state printer.old) (P.state printer.new) (written.packet_options options.now) result }
 {
-    let comment_size = PUBLICATION.len() + publication.len();
+    let comment_size = (PUBLICATION.len() + publication.len()) as u32;
     print_pieces(
         printer,
         &[
             Piece::U16(OPT_COMMENT),
-            Piece::U16(comment_size as u16),
+            Piece::U16(low_half(comment_size)),
             Piece::Raw(PUBLICATION),
             Piece::Raw(publication),
-            Piece::Padding(comment_size as u32),
+            Piece::Padding(comment_size),
             Piece::U16(EPB_PACKETID),
             Piece::U16(8),
             Piece::U64(options.id),
@@ -220,14 +240,23 @@ fn packet_options_print<P: Printer>(
 }
 
 /// The length of those options, with so many digits.
-#[tactic(auto, unfolding(crate::specs::Written::packet_options))]
 fn packet_options_size(digits: usize, options: &PacketOptions) -> usize
     requires digits { digits ≡ length (decimal options.now.publication) }
     requires short { digits ≤ 40 }
     ensures { result ≡ length (written.packet_options options.now) }
 {
-    let comment_size = PUBLICATION.len() + digits;
+    let comment_size = (PUBLICATION.len() + digits) as u32;
     option_size(comment_size) + option_size(8) + option_size(4) + verdict_size(options.verdict) + 4
+}
+
+/// The length of a packet's block modulo 2^32, with so many digits.
+#[tactic(auto, unfolding(crate::specs::Written::packet_size, crate::specs::Options::padded))]
+fn packet_size(kept: u32, digits: usize, options: &PacketOptions) -> u32
+    requires digits { digits ≡ length (decimal options.now.publication) }
+    requires short { digits ≤ 40 }
+    ensures { result ≡ (32 + padded kept + length (written.packet_options options.now)) % 2 ^ 32 }
+{
+    low(32 + padded(kept as usize) + packet_options_size(digits, options))
 }
 
 /// The upper and the lower half of a number.
@@ -247,10 +276,10 @@ fn packet_fields_print<P: Printer>(
     original: u32,
     kept: &[u8],
 ) -> Result<(), P::End>
-    requires { length kept.now < 2 ^ 32 }
     ensures { Prints P.tells P.counts (P.state printer.old) (P.state printer.new) (written.u32_bytes 6 ++ written.u32_bytes size ++ written.packet_fields number timestamp (length kept.now) original ++ kept.now ++ written.padding (length kept.now)) result }
 {
     let (upper, lower) = halves(timestamp);
+    let kept_size = low(kept.len());
     print_pieces(
         printer,
         &[
@@ -259,17 +288,16 @@ fn packet_fields_print<P: Printer>(
             Piece::U32(number),
             Piece::U32(upper),
             Piece::U32(lower),
-            Piece::U32(kept.len() as u32),
+            Piece::U32(kept_size),
             Piece::U32(original),
             Piece::Raw(kept),
-            Piece::Padding(kept.len() as u32),
+            Piece::Padding(kept_size),
         ],
     )
 }
 
 /// Prints a packet of the interface of a number, with a time in nanoseconds. `original` is the packet's length, of
-/// which these bytes are kept.
-#[tactic(auto, unfolding(crate::specs::Written::packet_bytes, crate::specs::Written::packet_size))]
+/// which these bytes are kept. A length that its field can't hold is written modulo the field's range.
 pub fn packet_print<P: Printer>(
     printer: &mut P,
     number: u32,
@@ -278,13 +306,11 @@ pub fn packet_print<P: Printer>(
     kept: &[u8],
     options: &PacketOptions,
 ) -> Result<(), P::End>
-    requires { written.packet_size kept.now options.now < 2 ^ 32 }
     ensures { Prints P.tells P.counts (P.state printer.old) (P.state printer.new) (written.packet_bytes number timestamp original kept.now options.now) result }
 {
     let mut digits = itoa::Buffer::new();
     let publication = digits.format(options.publication).as_bytes();
-    let options_size = packet_options_size(publication.len(), options);
-    let size = (32 + padded(kept.len()) + options_size) as u32;
+    let size = packet_size(low(kept.len()), publication.len(), options);
     packet_fields_print(printer, size, number, timestamp, original, kept)?;
     packet_options_print(printer, publication, options)?;
     printer.print(&size.to_le_bytes())
@@ -325,7 +351,8 @@ pub fn packet(
     ensures bytes { IfOk result (λ bytes. bytes ≡ written.packet_bytes number timestamp original kept.now options.now) }
     ensures read_back { IfOk result (ReadsAsPacket number timestamp kept.now) }
 {
+    let options = *options;
     let mut block = Bytes::new(alloc);
-    packet_print(&mut block, number, timestamp, original, kept, options)?;
+    packet_print(&mut block, number, timestamp, original, kept, &options)?;
     Ok(block)
 }
