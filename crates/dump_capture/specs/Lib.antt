@@ -1,2 +1,3 @@
+pub mod Point
 pub mod Key
 pub mod Capture

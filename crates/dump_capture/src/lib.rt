@@ -1,6 +1,7 @@
 //! The capture that is written while programs run: each packet as it enters and leaves them.
 #![tactic(auto)]
 
+mod blocks;
 mod capture;
 mod key;
 mod point;
