@@ -1,5 +1,5 @@
 -- Entries that move from one list into another, all but the one at a place.
-use Rattle.std.proofs.Common.{◌≡◌, ℕ, zero, suc, ◌+◌, ◌-◌, ◌<◌, ◌≤◌, Bool, List, [], ◌∷◌, ◌++◌, length, take, drop, slice_range, Option, Some, None, is_some, append_assoc, length-append, arith, refl, ap, sym, subst, ◌∙◌, true, false, true≢false}
+use Rattle.std.proofs.Common.{◌≡◌, ℕ, zero, suc, ◌+◌, ◌-◌, ◌<◌, ◌≤◌, Bool, List, [], ◌∷◌, ◌++◌, length, take, drop, slice_range, position, Option, Some, None, is_some, append_assoc, length-append, arith, refl, ap, sym, subst, ◌∙◌, true, false, true≢false}
 use Rattle.std.specs.Cmp.{IsEquivalence}
 use Rattle.std.specs.List.{remove, remove_range, IsDistinct, AllZip}
 use Rattle.std.specs.Map.{keys_of, lookup, remove_entry}
@@ -34,7 +34,7 @@ lookup-removed t [] (suc i) none = refl
 lookup-removed t (e ∷ es) zero none = grind (arith, common_steps, none)
 lookup-removed t (e ∷ es) (suc i) none = grind (arith, common_steps, none, lookup-removed t es i)
 
-pub remove-at : {K X : Type 0} (t : K → Bool) (es : List (K × X)) (i : ℕ) → Rattle.std.specs.List.position t (keys_of es) ≡ Some i → remove es i ≡ remove_entry t es
+pub remove-at : {K X : Type 0} (t : K → Bool) (es : List (K × X)) (i : ℕ) → position t (keys_of es) ≡ Some i → remove es i ≡ remove_entry t es
 remove-at t es i at = sym (remove_entry-first t es i (Found-position t es i at).first)
 
 pub some_from : {X N : Type 0} {P : X → Type 0} (r : Option X) → MatchOption r N P → (N → ⊥) → IsSome r
