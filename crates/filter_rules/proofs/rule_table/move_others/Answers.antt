@@ -19,7 +19,7 @@ loop-index-init g c =
 pub unwrap-key-requires : goal.unwrap-key-requires
 unwrap-key-requires g c =
     let inv = c.loop-index.invariant in
-    some_from c.next.result c.next.ensures.steps (λ none. moves-left c.args.place c.args.from.now.entries _ _ _ inv.moves (omega (arith, c.loop-index-test.true, c.len-rows.ensures.len)) none.0)
+    some_from _ c.next.result c.next.ensures.steps (λ none. moves-left c.args.place c.args.from.now.entries _ _ _ inv.moves (omega (arith, c.loop-index-test.true, c.len-rows.ensures.len)) none.0)
 
 pub unwrap-requires : goal.unwrap-requires
 unwrap-requires g c =
