@@ -1,5 +1,5 @@
 -- Entries that move from one list into another, all but the one at a place.
-use Rattle.std.proofs.Common.{◌≡◌, ℕ, zero, suc, ◌+◌, ◌-◌, ◌<◌, ◌≤◌, Bool, List, [], ◌∷◌, ◌++◌, length, take, drop, slice_range, Option, Some, None, is_some, append_assoc, length-append, arith, refl, ap, sym, subst, ◌∙◌, true, false, true≢false}
+use Rattle.std.proofs.Common.{◌≡◌, ℕ, zero, suc, ◌+◌, ◌-◌, ◌<◌, ◌≤◌, Bool, List, [], ◌∷◌, ◌++◌, length, take, drop, slice_range, position, Option, Some, None, is_some, append_assoc, length-append, arith, refl, ap, sym, subst, ◌∙◌, true, false, true≢false}
 use Rattle.std.specs.Cmp.{IsEquivalence}
 use Rattle.std.specs.List.{remove, remove_range, IsDistinct, AllZip}
 use Rattle.std.specs.Map.{keys_of, lookup, remove_entry}
@@ -8,9 +8,13 @@ use Rattle.std.proofs.lemmas.Grind.{common_steps}
 use Rattle.std.proofs.lemmas.List.{take_all, drop_all, length_push}
 use Rattle.indexmap.proofs.MapLemmas.{absent_before, Found-position, remove_entry-first}
 
+take-nil : {X : Type 0} (i : ℕ) → take {A = X} i [] ≡ []
+take-nil zero = refl
+take-nil (suc i) = refl
+
 pub remove-push_other : {X : Type 0} (xs : List X) (x : X) (i : ℕ) → (length xs ≡ i → ⊥) → remove (xs ++ x ∷ []) i ≡ remove xs i ++ x ∷ []
 remove-push_other [] x zero other = absurd (other refl)
-remove-push_other [] x (suc i) other = refl
+remove-push_other [] x (suc i) other = ap (λ l. x ∷ (l ++ [])) (take-nil i)
 remove-push_other (y ∷ ys) x zero other = refl
 remove-push_other (y ∷ ys) x (suc i) other = ap (λ l. y ∷ l) (remove-push_other ys x i (λ same. other (ap suc same)))
 
@@ -34,12 +38,16 @@ lookup-removed t [] (suc i) none = refl
 lookup-removed t (e ∷ es) zero none = grind (arith, common_steps, none)
 lookup-removed t (e ∷ es) (suc i) none = grind (arith, common_steps, none, lookup-removed t es i)
 
-pub remove-at : {K X : Type 0} (t : K → Bool) (es : List (K × X)) (i : ℕ) → Rattle.std.specs.List.position t (keys_of es) ≡ Some i → remove es i ≡ remove_entry t es
+pub remove-at : {K X : Type 0} (t : K → Bool) (es : List (K × X)) (i : ℕ) → position t (keys_of es) ≡ Some i → remove es i ≡ remove_entry t es
 remove-at t es i at = sym (remove_entry-first t es i (Found-position t es i at).first)
 
-pub some_from : {X N : Type 0} {P : X → Type 0} (r : Option X) → MatchOption r N P → (N → ⊥) → IsSome r
-some_from None m no = absurd (no m)
-some_from (Some x) m no = refl
+pub some_from : {X N : Type 0} (P : X → Type 0) (r : Option X) → MatchOption r N P → (N → ⊥) → IsSome r
+some_from P None m never = absurd (never m)
+some_from P (Some x) m never = refl
+
+pub none_at : {X : Type 0} (r : Option X) → is_some r ≡ false → r ≡ None
+none_at None none = refl
+none_at (Some x) none = absurd (true≢false none)
 
 pub clones-same : {X : Type 0} (R : X → X → Type 0) → ((x y : X) → R x y → y ≡ x) → (xs ys : List X) → AllZip R xs ys → ys ≡ xs
 clones-same R same [] [] all = refl

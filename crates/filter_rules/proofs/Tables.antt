@@ -68,7 +68,7 @@ apart : (x y key : RuleKey) → same_key x key ≡ true → same_key y x ≡ fal
 apart x y key here other = grind (arith, nat_tests, here, other, same_kind_is x.kind key.kind)
 
 -- the number of a row that has one of the flags
-pub answer_of : ℕ → Option RowValue → Option ℕ
+abbrev pub answer_of : ℕ → Option RowValue → Option ℕ
 answer_of flags None = None
 answer_of flags (Some value) = then_some (has_one_of value.flags flags) value.number
 

@@ -1,8 +1,8 @@
 //! Rows under keys, found by their hashes.
 
-ghost use Rattle.std.specs.Prelude.{◌≡◌, ◌+◌, ◌<◌, ◌≤◌, ◌↔◌, true, false, [], length, slice_get, Some, IsOk, IfOk, IfSome, OnOk, OnErr, IsErr};
+ghost use Rattle.std.specs.Prelude.{◌≡◌, ◌+◌, ◌<◌, ◌≤◌, ◌↔◌, true, false, [], ◌∷◌, ◌++◌, length, slice_get, Some, IsOk, IfOk, IfSome, OnOk, OnErr, IsErr};
 ghost use Rattle.std.specs.List.{remove, IsDistinct};
-ghost use Rattle.std.specs.Map.{keys_of, lookup, remove_entry};
+ghost use Rattle.std.specs.Map.{keys_of, lookup, remove_entry, set_value};
 ghost use Rattle.std.specs.Option.{option_map};
 ghost use Rattle.indexmap.specs.IndexMap.{index_map_len, spare};
 ghost use Rattle.filter_rules.specs.Table.{place_of, is_there, has_flag, number_at, set_row, clear_row};
@@ -141,15 +141,15 @@ impl<K: Eq + Hash + Drop> RuleTable<K> {
         ensures full { IsErr result ↔ ((is_there K.eq self.old.rows key ≡ false) × (length self.old.rows ≡ self.old.room)) }
         ensures err { OnErr result (self.new ≡ self.old) }
     {
-        if let Some(value) = self.rows.get_mut(&key) {
-            value.flags |= flags;
-            return Ok(value.number);
-        }
-        if self.len() == self.room {
-            return Err(RulesFull);
-        }
-        self.rows.insert(key, RowValue { flags, number }).unwrap();
-        Ok(number)
+        let Some(value) = self.get(&key) else {
+            return self.push(key, RowValue { flags, number });
+        };
+        let more = RowValue {
+            flags: value.flags | flags,
+            ..value
+        };
+        self.put(&key, more);
+        Ok(value.number)
     }
 
     /// Clears flags in the row of the key, and drops the row where it has no flag left.
@@ -165,11 +165,14 @@ impl<K: Eq + Hash + Drop> RuleTable<K> {
         if value.flags & flags == 0 {
             return Err(NoSuchRule);
         }
-        let left = value.flags & !flags;
-        if left == 0 {
+        let left = RowValue {
+            flags: value.flags & !flags,
+            ..value
+        };
+        if left.flags == 0 {
             self.drop_row(key);
-        } else if let Some(value) = self.rows.get_mut(key) {
-            value.flags = left;
+        } else {
+            self.put(key, left);
         }
         Ok(())
     }
@@ -179,6 +182,31 @@ impl<K: Eq + Hash + Drop> RuleTable<K> {
         ensures { self.new ≡ record self.old { rows = [] } }
     {
         self.rows.clear();
+    }
+
+    /// Makes a row behind the others.
+    fn push(&mut self, key: K, value: RowValue) -> Result<u32, RulesFull>
+        requires { is_there K.eq self.old.rows key ≡ false }
+        ensures rows { OnOk result (self.new ≡ record self.old { rows = self.old.rows ++ (key, value) ∷ [] }) }
+        ensures number { IfOk result (λ n. n ≡ value.number) }
+        ensures full { IsErr result ↔ (length self.old.rows ≡ self.old.room) }
+        ensures err { OnErr result (self.new ≡ self.old) }
+    {
+        if self.len() == self.room {
+            return Err(RulesFull);
+        }
+        self.rows.insert(key, value).unwrap();
+        Ok(value.number)
+    }
+
+    /// Changes what the row with the key holds.
+    fn put(&mut self, key: &K, value: RowValue)
+        requires { is_there K.eq self.old.rows key.now ≡ true }
+        ensures { self.new ≡ record self.old { rows = set_value (K.eq key.now) self.old.rows value } }
+    {
+        if let Some(held) = self.rows.get_mut(key) {
+            *held = value;
+        }
     }
 
     /// Drops the row with the key; the others keep their order.
