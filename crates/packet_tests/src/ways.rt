@@ -4,7 +4,7 @@ use lists::{Bytes, OutOfMemory};
 use std::alloc::Global;
 use std::test::Fail;
 use xdp_state::{
-    Captured, Change, DumpList, DumpSetting, InterfaceList, Kind, Library, Mode, NameList, Own,
+    Change, DumpList, DumpSetting, InterfaceList, KeptFrame, Kind, Library, Mode, NameList, Own,
     Packet, State, traverse,
 };
 use xio::Action;
@@ -59,7 +59,7 @@ fn drops_the_frame_that_a_rule_names(rt: HostRuntime) -> Result<(), Fail> {
         };
         assert_eq!(rt; (visit.number, visit.target, visit.rule), (1, 0, rule));
         assert_eq!(rt; (visit.action, visit.cause), (action, Cause::Exit));
-        assert!(rt; visit.entry.is_none() && visit.exit.is_none());
+        assert!(rt; visit.entry.get().is_none() && visit.exit.get().is_none());
         assert_eq!(rt; (own.verdict(), own.target()), (action, 0));
         assert_eq!(rt; (trip.verdict, trip.target), (action, 0));
         for bytes in [own.frame(), trip.frame.as_slice()] {
@@ -92,8 +92,8 @@ fn dumping(alloc: Global, asked: Asked) -> Result<Library, OutOfMemory> {
 }
 
 /// The length of a frame that is kept, and of what is kept of it.
-fn sizes(kept: &Option<Captured>) -> Option<(u32, usize)> {
-    let kept = kept.as_ref()?;
+fn sizes(kept: &KeptFrame) -> Option<(u32, usize)> {
+    let kept = kept.get()?;
     Some((kept.length, kept.kept.as_slice().len()))
 }
 

@@ -8,6 +8,7 @@ ghost use Rattle.script_text.specs.WordViews.{arranged_of};
 ghost use Rattle.script_text.specs.Words.{words_of};
 
 use crate::arranged::{Words, arranged};
+use crate::boxed_command::BoxedCommand;
 use crate::dump::{setting_of, stop_of};
 use crate::filter::filter_line;
 use crate::frame::Frame;
@@ -66,10 +67,11 @@ fn loader_line(alloc: Global, script: &mut Script, number: u32, words: &[u8]) ->
     };
     let words = arranged(verb, behind)?;
     let command = loader_command(alloc, &script.objects, verb, words)?;
+    let boxed = BoxedCommand::new(alloc, command)?;
     add_object(alloc, &mut script.objects, words.plain.second)?;
     script.lines.push(Line {
         line: number,
-        what: What::Command(command),
+        what: What::Command(boxed),
     })?;
     Ok(())
 }
@@ -94,10 +96,11 @@ fn start_line(
         interface: bytes_of(alloc, name)?,
         setting: script.dumps.len(),
     };
+    let boxed = BoxedCommand::new(alloc, command)?;
     script.dumps.push(setting)?;
     script.lines.push(Line {
         line: number,
-        what: What::Command(command),
+        what: What::Command(boxed),
     })?;
     Ok(())
 }
@@ -121,7 +124,8 @@ fn dump_line(alloc: Global, script: &mut Script, number: u32, words: &[u8]) -> R
     match (verb, words.plain.first, words.plain.second) {
         (Verb::DumpStart, Some(name), None) => start_line(alloc, script, number, words, name),
         (Verb::DumpStop, Some(name), None) => {
-            let what = What::Command(stop_of(alloc, name)?);
+            let command = stop_of(alloc, name)?;
+            let what = What::Command(BoxedCommand::new(alloc, command)?);
             script.lines.push(Line { line: number, what })?;
             Ok(())
         }
@@ -193,7 +197,8 @@ fn what_of(
     ensures flags { IfOk result (λ what. asks_flags what ≡ true) }
 {
     if command == b"xdp-filter".as_slice() {
-        return Ok(What::Command(filter_line(alloc, words)?));
+        let command = filter_line(alloc, words)?;
+        return Ok(What::Command(BoxedCommand::new(alloc, command)?));
     }
     if command == b"packet".as_slice() {
         return packet_line(alloc, interfaces, words);
