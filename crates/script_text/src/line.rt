@@ -1,4 +1,4 @@
-ghost use Rattle.std.specs.Prelude.{◌≡◌, ◌+◌, ◌≤◌, ℕ, true, length, Err, IfOk, OnOk, OnErr};
+ghost use Rattle.std.specs.Prelude.{◌≡◌, ◌+◌, ◌≤◌, ℕ, true, [], ◌∷◌, ◌++◌, length, Err, IfOk, OnOk, OnErr};
 ghost use Rattle.script_text.specs.Handed.{IsSound, asks_frame, asks_processor, asks_flags};
 ghost use Rattle.script_text.specs.Interfaces.{queue_count, packet_of};
 ghost use Rattle.script_text.specs.Readings.{Leads, Reads};
@@ -20,10 +20,11 @@ use crate::reading::LineEnd;
 use crate::rule::{BAD_BYTE, BAD_FORM, BAD_FRAME, UNKNOWN};
 use crate::script::Script;
 use crate::text::bytes_of;
-use crate::what::{Line, What};
+use crate::what::{Line, LineList, What};
 use crate::words::{are_printable, is_comment, is_option, next_word};
 use std::alloc::Global;
 use xdp_state::{Command, Interface};
+use xio::OutOfMemory;
 
 /// Reads `NAME QUEUES`.
 #[tactic(auto, unfolding(crate::specs::Script::interface_line))]
@@ -50,6 +51,23 @@ fn interface_line(alloc: Global, script: &mut Script, words: &[u8]) -> Result<()
     Ok(())
 }
 
+/// Adds a line that asks for a command.
+fn push_command(
+    alloc: Global,
+    lines: &mut LineList,
+    number: u32,
+    command: Command,
+) -> Result<(), OutOfMemory>
+    ensures ok { OnOk result (lines.new ≡ lines.old ++ record { line = number; what = What.Command command } ∷ []) }
+    ensures err { OnErr result (lines.new ≡ lines.old) }
+{
+    let command = BoxedCommand::new(alloc, command)?;
+    lines.push(Line {
+        line: number,
+        what: What::Command(command),
+    })
+}
+
 /// Reads a line of `xdp-loader`, by the words behind the first. Where a rule is broken the script stays as it was.
 #[tactic(auto, unfolding(crate::specs::Script::loader_line), using(crate::proofs::HandedLemmas::handed))]
 fn loader_line(alloc: Global, script: &mut Script, number: u32, words: &[u8]) -> Result<(), LineEnd>
@@ -67,12 +85,8 @@ fn loader_line(alloc: Global, script: &mut Script, number: u32, words: &[u8]) ->
     };
     let words = arranged(verb, behind)?;
     let command = loader_command(alloc, &script.objects, verb, words)?;
-    let boxed = BoxedCommand::new(alloc, command)?;
     add_object(alloc, &mut script.objects, words.plain.second)?;
-    script.lines.push(Line {
-        line: number,
-        what: What::Command(boxed),
-    })?;
+    push_command(alloc, &mut script.lines, number, command)?;
     Ok(())
 }
 
@@ -96,12 +110,8 @@ fn start_line(
         interface: bytes_of(alloc, name)?,
         setting: script.dumps.len(),
     };
-    let boxed = BoxedCommand::new(alloc, command)?;
     script.dumps.push(setting)?;
-    script.lines.push(Line {
-        line: number,
-        what: What::Command(boxed),
-    })?;
+    push_command(alloc, &mut script.lines, number, command)?;
     Ok(())
 }
 
@@ -125,8 +135,7 @@ fn dump_line(alloc: Global, script: &mut Script, number: u32, words: &[u8]) -> R
         (Verb::DumpStart, Some(name), None) => start_line(alloc, script, number, words, name),
         (Verb::DumpStop, Some(name), None) => {
             let command = stop_of(alloc, name)?;
-            let what = What::Command(BoxedCommand::new(alloc, command)?);
-            script.lines.push(Line { line: number, what })?;
+            push_command(alloc, &mut script.lines, number, command)?;
             Ok(())
         }
         _ => Err(LineEnd::BadLine { rule: BAD_FORM }),
