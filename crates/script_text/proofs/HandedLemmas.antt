@@ -103,6 +103,6 @@ sound_start script setting number name place sound =
     sound_added script script.objects (script.dumps ++ setting ∷ []) (record { line = number; what = what.Command (command.DumpStart name place) })
     sound sound.objects refl refl refl
 
-pub ruleset handed = (sound_line sound_start)
+pub ruleset handed = (sound_line, sound_start)
 
 pub ruleset least = (both-least)

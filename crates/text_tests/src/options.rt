@@ -165,15 +165,24 @@ fn is_stop(what: &What) -> bool {
     }
 }
 
+/// Whether the dump of this setting asks for the program alone.
+fn asks_alone(script: &Script, number: u32, name: &str) -> bool {
+    match script.dumps.as_slice().get(number as usize) {
+        Some(dump) => matches!(
+            dump.names.as_slice(),
+            [only] if only.as_slice() == name.as_bytes()
+        ),
+        None => false,
+    }
+}
+
 /// Whether the start of a dump on eth0 has the setting of this number, which asks for the program.
 fn is_start(script: &Script, what: &What, number: u32, name: &str) -> bool {
     match command_of(what) {
         Some(Command::DumpStart { interface, setting }) => {
-            let asked = script.dumps.as_slice().get(number as usize);
-            let names = asked.map_or(&[], |asked| asked.names.as_slice());
             interface.as_slice() == b"eth0".as_slice()
                 && *setting == number
-                && matches!(names, [only] if only.as_slice() == name.as_bytes())
+                && asks_alone(script, number, name)
         }
         _ => false,
     }
