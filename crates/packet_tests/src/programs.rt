@@ -11,8 +11,9 @@ use object_load::{LoadEnd, programs_of};
 use std::alloc::Global;
 use std::test::Fail;
 use xdp_state::{
-    Captured, Change, Command, DumpList, DumpSetting, Interface, InterfaceList, Judgement, Library,
-    LoadWords, Loaded, Mode, NameList, ObjectRow, Own, Packet, Reason, State, Traversal, traverse,
+    Change, Command, DumpList, DumpSetting, Interface, InterfaceList, Judgement, KeptFrame,
+    Library, LoadWords, Loaded, Mode, NameList, ObjectRow, Own, Packet, Reason, State, Traversal,
+    traverse,
 };
 use xio::Action;
 
@@ -253,8 +254,8 @@ fn sides(trip: &Traversal) -> Option<(Cause, u8, u8)> {
     Some((visit.cause, first(&visit.entry)?, first(&visit.exit)?))
 }
 
-fn first(kept: &Option<Captured>) -> Option<u8> {
-    kept.as_ref()?.kept.as_slice().first().copied()
+fn first(kept: &KeptFrame) -> Option<u8> {
+    kept.get()?.kept.as_slice().first().copied()
 }
 
 /// The verdict on a packet that goes through one program, the program's cause, and the frame's first byte before it, behind
@@ -280,7 +281,7 @@ fn carried(
     let packet = Packet {
         id: 0,
         timestamp: 0,
-        frame: text(alloc, &FRAME)?,
+        frame: &FRAME,
     };
     traverse(&state, &library, &mut own, &packet);
     let trip = own.trip(alloc)?;

@@ -1,6 +1,6 @@
 use bpf_machine::Cause;
 use std::test::Fail;
-use xdp_state::{HitRow, Kind, Tally, Visit};
+use xdp_state::{HitRow, KeptFrame, Kind, Tally, Visit};
 use xio::Action;
 
 fn visit(action: Action, rule: Option<u32>) -> Visit {
@@ -11,8 +11,8 @@ fn visit(action: Action, rule: Option<u32>) -> Visit {
         cause: Cause::Exit,
         target: 0,
         rule,
-        entry: None,
-        exit: None,
+        entry: KeptFrame::none(),
+        exit: KeptFrame::none(),
     }
 }
 

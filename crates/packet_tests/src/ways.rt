@@ -4,19 +4,17 @@ use lists::{Bytes, OutOfMemory};
 use std::alloc::Global;
 use std::test::Fail;
 use xdp_state::{
-    Captured, Change, DumpList, DumpSetting, InterfaceList, Kind, Library, Mode, NameList, Own,
+    Change, DumpList, DumpSetting, InterfaceList, KeptFrame, Kind, Library, Mode, NameList, Own,
     Packet, State, traverse,
 };
 use xio::Action;
 
-fn packet(alloc: Global, bytes: &[u8; 14]) -> Result<Packet, OutOfMemory> {
-    let mut frame = Bytes::new(alloc);
-    frame.append(bytes)?;
-    Ok(Packet {
+fn packet<'a>(frame: &'a [u8]) -> Packet<'a> {
+    Packet {
         id: 0,
         timestamp: 0,
         frame,
-    })
+    }
 }
 
 #[test]
@@ -52,14 +50,14 @@ fn drops_the_frame_that_a_rule_names(rt: HostRuntime) -> Result<(), Fail> {
     for (last, kind, action, rule) in rows {
         let frame = [2, 0, 0, 0, 0, last, 2, 0, 0, 0, 0, 2, kind[0], kind[1]];
         own.prepare(&state, &library)?;
-        traverse(&state, &library, &mut own, &packet(rt.alloc(), &frame)?);
+        traverse(&state, &library, &mut own, &packet(&frame));
         let trip = own.trip(rt.alloc())?;
         let [visit] = trip.visits.as_slice() else {
             return Err("not one visit")?;
         };
         assert_eq!(rt; (visit.number, visit.target, visit.rule), (1, 0, rule));
         assert_eq!(rt; (visit.action, visit.cause), (action, Cause::Exit));
-        assert!(rt; visit.entry.is_none() && visit.exit.is_none());
+        assert!(rt; visit.entry.get().is_none() && visit.exit.get().is_none());
         assert_eq!(rt; (own.verdict(), own.target()), (action, 0));
         assert_eq!(rt; (trip.verdict, trip.target), (action, 0));
         for bytes in [own.frame(), trip.frame.as_slice()] {
@@ -92,8 +90,8 @@ fn dumping(alloc: Global, asked: Asked) -> Result<Library, OutOfMemory> {
 }
 
 /// The length of a frame that is kept, and of what is kept of it.
-fn sizes(kept: &Option<Captured>) -> Option<(u32, usize)> {
-    let kept = kept.as_ref()?;
+fn sizes(kept: &KeptFrame) -> Option<(u32, usize)> {
+    let kept = kept.get()?;
     Some((kept.length, kept.kept.as_slice().len()))
 }
 
@@ -133,7 +131,7 @@ fn keeps_the_frames_that_a_dump_asks_for(rt: HostRuntime) -> Result<(), Fail> {
         });
         own.prepare(&state, &library)?;
         let frame = [2, 0, 0, 0, 0, 1, 2, 0, 0, 0, 0, 2, 0x88, 0xB5];
-        traverse(&state, &library, &mut own, &packet(rt.alloc(), &frame)?);
+        traverse(&state, &library, &mut own, &packet(&frame));
         let trip = own.trip(rt.alloc())?;
         let visit = trip.visits.as_slice().first().ok_or("no visit")?;
         assert_eq!(rt; (sizes(&visit.entry), sizes(&visit.exit)), (entry, exit));

@@ -3,6 +3,7 @@
 
 mod actions;
 mod arranged;
+mod boxed_command;
 mod chains;
 mod dump;
 mod ethernet;
@@ -40,6 +41,7 @@ mod what;
 mod word_lists;
 mod words;
 
+pub use boxed_command::BoxedCommand;
 pub use chains::{chain_print, chain_text, chains_print};
 pub use frame::Frame;
 pub use laws::reads_back;

@@ -1,4 +1,4 @@
-ghost use Rattle.std.specs.Prelude.{◌≡◌, ◌+◌, ◌≤◌, ℕ, true, length, Err, IfOk, OnOk, OnErr};
+ghost use Rattle.std.specs.Prelude.{◌≡◌, ◌+◌, ◌≤◌, ℕ, true, [], ◌∷◌, ◌++◌, length, Err, IfOk, OnOk, OnErr};
 ghost use Rattle.script_text.specs.Handed.{IsSound, asks_frame, asks_processor, asks_flags};
 ghost use Rattle.script_text.specs.Interfaces.{queue_count, packet_of};
 ghost use Rattle.script_text.specs.Readings.{Leads, Reads};
@@ -8,6 +8,7 @@ ghost use Rattle.script_text.specs.WordViews.{arranged_of};
 ghost use Rattle.script_text.specs.Words.{words_of};
 
 use crate::arranged::{Words, arranged};
+use crate::boxed_command::BoxedCommand;
 use crate::dump::{setting_of, stop_of};
 use crate::filter::filter_line;
 use crate::frame::Frame;
@@ -19,10 +20,11 @@ use crate::reading::LineEnd;
 use crate::rule::{BAD_BYTE, BAD_FORM, BAD_FRAME, UNKNOWN};
 use crate::script::Script;
 use crate::text::bytes_of;
-use crate::what::{Line, What};
+use crate::what::{Line, LineList, What};
 use crate::words::{are_printable, is_comment, is_option, next_word};
 use std::alloc::Global;
 use xdp_state::{Command, Interface};
+use xio::OutOfMemory;
 
 /// Reads `NAME QUEUES`.
 #[tactic(auto, unfolding(crate::specs::Script::interface_line))]
@@ -49,6 +51,23 @@ fn interface_line(alloc: Global, script: &mut Script, words: &[u8]) -> Result<()
     Ok(())
 }
 
+/// Adds a line that asks for a command.
+fn push_command(
+    alloc: Global,
+    lines: &mut LineList,
+    number: u32,
+    command: Command,
+) -> Result<(), OutOfMemory>
+    ensures ok { OnOk result (lines.new ≡ lines.old ++ record { line = number; what = What.Command command } ∷ []) }
+    ensures err { OnErr result (lines.new ≡ lines.old) }
+{
+    let command = BoxedCommand::new(alloc, command)?;
+    lines.push(Line {
+        line: number,
+        what: What::Command(command),
+    })
+}
+
 /// Reads a line of `xdp-loader`, by the words behind the first. Where a rule is broken the script stays as it was.
 #[tactic(auto, unfolding(crate::specs::Script::loader_line), using(crate::proofs::HandedLemmas::handed))]
 fn loader_line(alloc: Global, script: &mut Script, number: u32, words: &[u8]) -> Result<(), LineEnd>
@@ -67,10 +86,7 @@ fn loader_line(alloc: Global, script: &mut Script, number: u32, words: &[u8]) ->
     let words = arranged(verb, behind)?;
     let command = loader_command(alloc, &script.objects, verb, words)?;
     add_object(alloc, &mut script.objects, words.plain.second)?;
-    script.lines.push(Line {
-        line: number,
-        what: What::Command(command),
-    })?;
+    push_command(alloc, &mut script.lines, number, command)?;
     Ok(())
 }
 
@@ -95,10 +111,7 @@ fn start_line(
         setting: script.dumps.len(),
     };
     script.dumps.push(setting)?;
-    script.lines.push(Line {
-        line: number,
-        what: What::Command(command),
-    })?;
+    push_command(alloc, &mut script.lines, number, command)?;
     Ok(())
 }
 
@@ -121,8 +134,8 @@ fn dump_line(alloc: Global, script: &mut Script, number: u32, words: &[u8]) -> R
     match (verb, words.plain.first, words.plain.second) {
         (Verb::DumpStart, Some(name), None) => start_line(alloc, script, number, words, name),
         (Verb::DumpStop, Some(name), None) => {
-            let what = What::Command(stop_of(alloc, name)?);
-            script.lines.push(Line { line: number, what })?;
+            let command = stop_of(alloc, name)?;
+            push_command(alloc, &mut script.lines, number, command)?;
             Ok(())
         }
         _ => Err(LineEnd::BadLine { rule: BAD_FORM }),
@@ -193,7 +206,8 @@ fn what_of(
     ensures flags { IfOk result (λ what. asks_flags what ≡ true) }
 {
     if command == b"xdp-filter".as_slice() {
-        return Ok(What::Command(filter_line(alloc, words)?));
+        let command = filter_line(alloc, words)?;
+        return Ok(What::Command(BoxedCommand::new(alloc, command)?));
     }
     if command == b"packet".as_slice() {
         return packet_line(alloc, interfaces, words);

@@ -1,3 +1,4 @@
+use crate::options::command_of;
 use script_text::{Script, What, chain_text, read_script};
 use std::alloc::Global;
 use std::test::Fail;
@@ -94,8 +95,8 @@ fn is_load(words: &LoadWords, load: &Load) -> bool {
 /// Whether the line at this place of the script asks for the load.
 fn has_load(script: &Script, place: usize, load: &Load) -> bool {
     match script.lines.as_slice().get(place) {
-        Some(line) => match &line.what {
-            What::Command(Command::LoaderLoad(words)) => is_load(words, load),
+        Some(line) => match command_of(&line.what) {
+            Some(Command::LoaderLoad(words)) => is_load(words, load),
             _ => false,
         },
         None => false,
@@ -139,8 +140,8 @@ xdp-loader status eth0
 ";
 
 fn is_unload(what: &What, wanted: Option<u32>) -> bool {
-    match what {
-        What::Command(Command::LoaderUnload { interface, id }) => {
+    match command_of(what) {
+        Some(Command::LoaderUnload { interface, id }) => {
             interface.as_slice() == b"eth0".as_slice() && *id == wanted
         }
         _ => false,
@@ -148,8 +149,8 @@ fn is_unload(what: &What, wanted: Option<u32>) -> bool {
 }
 
 fn is_status(what: &What, wanted: Option<&str>) -> bool {
-    match what {
-        What::Command(Command::LoaderStatus { interface }) => is_word(interface, wanted),
+    match command_of(what) {
+        Some(Command::LoaderStatus { interface }) => is_word(interface, wanted),
         _ => false,
     }
 }

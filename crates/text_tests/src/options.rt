@@ -4,11 +4,19 @@ use std::alloc::Global;
 use std::test::Fail;
 use xdp_state::{Command, DumpSetting, Mode};
 
+/// The command of a line, where it asks for one.
+pub fn command_of(what: &What) -> Option<&Command> {
+    match what {
+        What::Command(command) => Some(command.get()),
+        _ => None,
+    }
+}
+
 /// The rule of a script of one line: its key, its flags, and whether it is removed.
 fn rule_of(alloc: Global, line: &str) -> Option<(RuleKey, u8, bool)> {
     let script = read_script(alloc, line.as_bytes()).ok()?;
-    match &script.lines.as_slice().first()?.what {
-        What::Command(Command::FilterRule { key, flags, remove }) => Some((*key, *flags, *remove)),
+    match command_of(&script.lines.as_slice().first()?.what) {
+        Some(Command::FilterRule { key, flags, remove }) => Some((*key, *flags, *remove)),
         _ => None,
     }
 }
@@ -68,8 +76,8 @@ fn addresses(rt: HostRuntime) -> Result<(), Fail> {
 /// What a script of one line loads on eth0: mode, policy and features.
 fn load_of(alloc: Global, line: &str) -> Option<(Mode, Policy, u8)> {
     let script = read_script(alloc, line.as_bytes()).ok()?;
-    match &script.lines.as_slice().first()?.what {
-        What::Command(
+    match command_of(&script.lines.as_slice().first()?.what) {
+        Some(
             Command::FilterLoad {
                 interface,
                 mode,
@@ -112,8 +120,8 @@ fn dump_of(alloc: Global, line: &str) -> Option<(u32, bool, bool, u32)> {
         exit,
         snap,
     } = dump;
-    match &script.lines.as_slice().first()?.what {
-        What::Command(
+    match command_of(&script.lines.as_slice().first()?.what) {
+        Some(
             Command::DumpStart {
                 interface,
                 setting: 0,
@@ -151,9 +159,8 @@ fn dumps(rt: HostRuntime) -> Result<(), Fail> {
 }
 
 fn is_stop(what: &What) -> bool {
-    match what {
-        What::Command(Command::DumpStop { interface }) => interface.as_slice()
-            == b"eth1".as_slice(),
+    match command_of(what) {
+        Some(Command::DumpStop { interface }) => interface.as_slice() == b"eth1".as_slice(),
         _ => false,
     }
 }
@@ -171,8 +178,8 @@ fn asks_alone(script: &Script, number: u32, name: &str) -> bool {
 
 /// Whether the start of a dump on eth0 has the setting of this number, which asks for the program.
 fn is_start(script: &Script, what: &What, number: u32, name: &str) -> bool {
-    match what {
-        What::Command(Command::DumpStart { interface, setting }) => {
+    match command_of(what) {
+        Some(Command::DumpStart { interface, setting }) => {
             interface.as_slice() == b"eth0".as_slice()
                 && *setting == number
                 && asks_alone(script, number, name)
@@ -207,8 +214,8 @@ fn dump_lines(rt: HostRuntime) -> Result<(), Fail> {
 }
 
 fn is_unload(what: &What, keeps: bool) -> bool {
-    match what {
-        What::Command(Command::FilterUnload { interface, keep }) => {
+    match command_of(what) {
+        Some(Command::FilterUnload { interface, keep }) => {
             interface.as_slice() == b"eth0".as_slice() && *keep == keeps
         }
         _ => false,
@@ -247,7 +254,7 @@ fn are_lines(script: &Script) -> bool {
         && is_unload(&short.what, true)
         && is_unload(&long.what, true)
         && matches!(barrier.what, What::Barrier)
-        && matches!(status.what, What::Command(Command::FilterStatus))
+        && matches!(command_of(&status.what), Some(Command::FilterStatus))
         && status.line == 10
 }
 

@@ -8,7 +8,9 @@ use script_text::{
 };
 use std::alloc::Global;
 use std::test::Fail;
-use xdp_state::{Change, Interface, InterfaceList, Kind, Mode, Reason, State, Tally, Visit};
+use xdp_state::{
+    Change, Interface, InterfaceList, KeptFrame, Kind, Mode, Reason, State, Tally, Visit,
+};
 use xio::{Action, Bytes, OutOfMemory};
 
 fn is_outcome(alloc: Global, outcome: &Outcome, wanted: &str) -> bool {
@@ -238,8 +240,8 @@ fn tally(alloc: Global) -> Result<Tally, OutOfMemory> {
             cause: Cause::Exit,
             target: 0,
             rule: Some(rule),
-            entry: None,
-            exit: None,
+            entry: KeptFrame::none(),
+            exit: KeptFrame::none(),
         };
         tally.add(&[visit], action, handed)?;
     }

@@ -4,6 +4,7 @@ ghost use Rattle.xdp_state.specs.Dump.{captured_at, kept_of};
 ghost use Rattle.xdp_state.specs.Frames.{IsInside, marked};
 
 use crate::dump::Captured;
+use crate::kept_frame::KeptFrame;
 use lists::Bytes;
 use std::alloc::Global;
 use std::marker::Model;
@@ -71,13 +72,13 @@ impl Frames {
     }
 
     /// What is kept at a place.
-    pub fn copy_at(&self, alloc: Global, place: usize) -> Result<Option<Captured>, OutOfMemory>
+    pub fn copy_at(&self, alloc: Global, place: usize) -> Result<KeptFrame, OutOfMemory>
         requires { place < length self.now }
         ensures { IfOk result (λ captured. slice_get self.now place ≡ Some captured) }
     {
         match self.marks[place] {
-            Some(mark) => Ok(Some(copy_of(alloc, &self.bytes, mark)?)),
-            None => Ok(None),
+            Some(mark) => KeptFrame::new(alloc, copy_of(alloc, &self.bytes, mark)?),
+            None => Ok(KeptFrame::none()),
         }
     }
 }

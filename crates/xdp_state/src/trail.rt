@@ -5,7 +5,8 @@ ghost use Rattle.xdp_state.specs.Trails.{IsEven, visits_in};
 
 use crate::frames::Frames;
 use crate::state::MEMBERS;
-use crate::traversal::{Visit, VisitList};
+use crate::traversal::Visit;
+use crate::visit_list::VisitList;
 use bpf_machine::{Cause, Frame};
 use chain_order::Kind;
 use std::alloc::Global;
@@ -81,7 +82,7 @@ impl Trail {
         requires even { IsEven self.now }
         ensures { IfOk result (λ visits. visits ≡ visits_in self.now) }
     {
-        let mut visits = VisitList::new(alloc);
+        let mut visits = VisitList::with_capacity(alloc, self.seen.len())?;
         for place in 0..self.seen.len() {
             let visit = self.visit_at(alloc, place)?;
             visits.push(visit)?;

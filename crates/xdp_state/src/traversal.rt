@@ -1,7 +1,8 @@
-use crate::dump::Captured;
+use crate::kept_frame::KeptFrame;
+use crate::visit_list::VisitList;
 use bpf_machine::Cause;
 use chain_order::Kind;
-use lists::{Bytes, List};
+use lists::Bytes;
 use xio::Action;
 
 /// What one member made of a packet: its action, why a program ended so, the target of XDP_REDIRECT, else 0, the row of a
@@ -15,11 +16,9 @@ pub struct Visit {
     pub cause: Cause,
     pub target: u32,
     pub rule: Option<u32>,
-    pub entry: Option<Captured>,
-    pub exit: Option<Captured>,
+    pub entry: KeptFrame,
+    pub exit: KeptFrame,
 }
-
-pub type VisitList = List<Visit>;
 
 /// A packet's way through a chain: the visits in order, the verdict with its target, and the frame at the end.
 #[derive(Debug, Drop)]
