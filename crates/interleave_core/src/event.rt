@@ -7,11 +7,11 @@ use xdp_state::{Command, Packet};
 
 /// What may come next in a world.
 #[derive(Debug, Drop)]
-pub enum Event<'a> {
+pub enum Event {
     /// A command is answered, and published where it is accepted.
     Command(Command),
     /// A packet enters the queue of a processor.
-    HandIn { processor: u32, packet: Packet<'a> },
+    HandIn { processor: u32, packet: Packet },
     /// A processor carries the first packet of its queue.
     Carry { processor: u32 },
     /// The phase ends.

@@ -8,12 +8,12 @@ use xdp_state::{CountList, HandIn, HandInList};
 
 /// A processor in the phase under way: the packets that it was handed, and the counts of those that it carried.
 #[derive(Debug, Drop)]
-pub struct Lane<'a> {
-    hand_ins: HandInList<'a>,
+pub struct Lane {
+    hand_ins: HandInList,
     counts: CountList,
 }
 
-impl<'a> Model for Lane<'a> {
+impl Model for Lane {
     ghost use Rattle.interleave_core.specs.LaneView.{traffic_of, IsCounted};
     ghost use Rattle.interleave_core.specs.Traffic.{Traffic};
 
@@ -24,7 +24,7 @@ impl<'a> Model for Lane<'a> {
     ghost invariant = { IsCounted };
 }
 
-impl<'a> Lane<'a> {
+impl Lane {
     ghost use Rattle.interleave_core.specs.Traffic.{idle, waits, with_count, with_packet};
 
     /// Nothing yet.
@@ -45,8 +45,8 @@ impl<'a> Lane<'a> {
     }
 
     /// Puts a packet at the end of the queue.
-    pub fn hand_in(&mut self, hand_in: HandIn<'a>) -> Result<(), OutOfMemory>
-        ensures ok { OnOk result (self.new ≡ with_packet hand_in.entry self.old) }
+    pub fn hand_in(&mut self, hand_in: HandIn) -> Result<(), OutOfMemory>
+        ensures ok { OnOk result (self.new ≡ with_packet hand_in self.old) }
         ensures err { OnErr result (self.new ≡ self.old) }
     {
         self.hand_ins.push(hand_in)
@@ -76,7 +76,7 @@ impl<'a> Lane<'a> {
     }
 }
 
-fn copy_needs(alloc: Global, hand_ins: &[HandIn<'_>]) -> Result<CountList, OutOfMemory>
+fn copy_needs(alloc: Global, hand_ins: &[HandIn]) -> Result<CountList, OutOfMemory>
     ensures { IfOk result (λ needs. needs ≡ needs_of hand_ins.now) }
 {
     let mut needs = CountList::new(alloc);

@@ -13,7 +13,7 @@ ghost use Rattle.xdp_state.specs.Work.{needs_of};
 
 use crate::event::{Event, StepEnd};
 use crate::lane::Lane;
-use lists::OutOfMemory;
+use lists::{Bytes, OutOfMemory};
 use std::alloc::Global;
 use std::marker::Model;
 use xdp_state::{
@@ -24,15 +24,15 @@ use xdp_state::{
 /// A run that goes on event by event, in any order: what was published, by processor the packets that were handed in and the
 /// counts of those that were carried, and the phases that have ended.
 #[derive(Debug, Drop)]
-pub struct World<'a> {
+pub struct World {
     state: State,
     changes: Vec<Change>,
-    lanes: Vec<Lane<'a>>,
+    lanes: Vec<Lane>,
     plan: Vec<PlanPhase>,
     choices: Vec<NeedsList>,
 }
 
-impl<'a> Model for World<'a> {
+impl Model for World {
     ghost use Rattle.interleave_core.specs.Moment.{Moment};
     ghost use Rattle.interleave_core.specs.WorldView.{moment_of, IsWorld};
 
@@ -43,7 +43,7 @@ impl<'a> Model for World<'a> {
     ghost invariant = { IsWorld };
 }
 
-impl<'a> World<'a> {
+impl World {
     /// Before the first event, with a processor for each queue of the interfaces.
     pub fn new(alloc: Global, interfaces: &InterfaceList) -> Result<Self, OutOfMemory>
         requires { sum_by (λ interface. interface.queues) interfaces.now < 2 ^ 32 }
@@ -63,7 +63,7 @@ impl<'a> World<'a> {
 
     /// Makes an event come, of which a command is answered for this library. Its processor is there, a rule's flags are
     /// some flags of its kind, and there are fewer than 65,536 publications where a command comes.
-    pub fn step(&mut self, library: &Library, event: &Event<'a>) -> Result<(), StepEnd>
+    pub fn step(&mut self, library: &Library, event: &Event) -> Result<(), StepEnd>
         requires possible { IsPossible self.old event.now }
         requires interfaces { length library.now.interfaces ≤ 8 }
         requires sound { IsSound library.now }
@@ -140,13 +140,13 @@ impl<'a> World<'a> {
         Ok(())
     }
 
-    fn hand_in(&mut self, processor: u32, packet: &Packet<'a>) -> Result<(), StepEnd>
+    fn hand_in(&mut self, processor: u32, packet: &Packet) -> Result<(), StepEnd>
         requires { processor < length self.old.processors }
         ensures ok { OnOk result (Goes self.old (HandsIn processor packet.now) self.new) }
         ensures only { IfErr result (λ stop. stop ≡ StepEnd.OutOfMemory) }
         ensures err { OnErr result (self.new ≡ self.old) }
     {
-        let packet = lent_again(packet);
+        let packet = copy_of(*self.changes.allocator(), packet)?;
         let need = self.state.count();
         hand_to(&mut self.lanes, processor, HandIn { packet, need })?;
         Ok(())
@@ -200,7 +200,7 @@ fn queues_of(interfaces: &[Interface]) -> u32
     interfaces.iter().map(|interface| interface.queues).sum()
 }
 
-fn idle_lanes<'a>(alloc: Global, processors: usize) -> Result<Vec<Lane<'a>>, OutOfMemory>
+fn idle_lanes(alloc: Global, processors: usize) -> Result<Vec<Lane>, OutOfMemory>
     ensures { IfOk result (λ lanes. lanes.items ≡ replicate processors idle) }
 {
     let mut lanes = Vec::with_capacity(alloc, processors)?;
@@ -210,37 +210,34 @@ fn idle_lanes<'a>(alloc: Global, processors: usize) -> Result<Vec<Lane<'a>>, Out
     Ok(lanes)
 }
 
-/// The packet once more, with the same frame.
-fn lent_again<'a>(packet: &Packet<'a>) -> Packet<'a>
-    ensures { result ≡ packet.now }
+fn copy_of(alloc: Global, packet: &Packet) -> Result<Packet, OutOfMemory>
+    ensures { IfOk result (λ copy. copy ≡ packet.now) }
 {
-    Packet {
+    let mut frame = Bytes::new(alloc);
+    frame.append(packet.frame.as_slice())?;
+    Ok(Packet {
         id: packet.id,
         timestamp: packet.timestamp,
-        frame: packet.frame,
-    }
+        frame,
+    })
 }
 
-fn hand_to<'a>(
-    lanes: &mut Vec<Lane<'a>>,
-    processor: u32,
-    hand_in: HandIn<'a>,
-) -> Result<(), OutOfMemory>
+fn hand_to(lanes: &mut Vec<Lane>, processor: u32, hand_in: HandIn) -> Result<(), OutOfMemory>
     requires { processor < vec_len lanes.old }
-    ensures ok { OnOk result (lanes.new.items ≡ changed_at processor (with_packet hand_in.entry) lanes.old.items) }
+    ensures ok { OnOk result (lanes.new.items ≡ changed_at processor (with_packet hand_in) lanes.old.items) }
     ensures err { OnErr result (lanes.new.items ≡ lanes.old.items) }
 {
     lanes[processor as usize].hand_in(hand_in)
 }
 
-fn waits_on(lanes: &[Lane<'_>], processor: u32) -> bool
+fn waits_on(lanes: &[Lane], processor: u32) -> bool
     requires { processor < length lanes.now }
     ensures { result ≡ waits_at processor lanes.now }
 {
     lanes[processor as usize].waits()
 }
 
-fn carry_on(lanes: &mut Vec<Lane<'_>>, processor: u32, count: u32) -> Result<(), OutOfMemory>
+fn carry_on(lanes: &mut Vec<Lane>, processor: u32, count: u32) -> Result<(), OutOfMemory>
     requires place { processor < vec_len lanes.old }
     requires waits { waits_at processor lanes.old.items ≡ true }
     ensures ok { OnOk result (lanes.new.items ≡ changed_at processor (with_count count) lanes.old.items) }
@@ -250,7 +247,7 @@ fn carry_on(lanes: &mut Vec<Lane<'_>>, processor: u32, count: u32) -> Result<(),
 }
 
 /// The first processor for which a packet waits.
-fn first_waiting(lanes: &[Lane<'_>]) -> Option<u32>
+fn first_waiting(lanes: &[Lane]) -> Option<u32>
     requires { length lanes.now < 2 ^ 32 }
     ensures { result ≡ position waits lanes.now }
 {
@@ -258,14 +255,14 @@ fn first_waiting(lanes: &[Lane<'_>]) -> Option<u32>
     Some(place as u32)
 }
 
-fn place_of_waiting(lanes: &[Lane<'_>]) -> Option<usize>
+fn place_of_waiting(lanes: &[Lane]) -> Option<usize>
     ensures { result ≡ position waits lanes.now }
 {
     lanes.iter().position(|lane| lane.waits())
 }
 
 /// By processor the needs of its packets.
-fn needs_in(alloc: Global, lanes: &[Lane<'_>]) -> Result<NeedsList, OutOfMemory>
+fn needs_in(alloc: Global, lanes: &[Lane]) -> Result<NeedsList, OutOfMemory>
     ensures { IfOk result (λ needs. needs ≡ map (λ traffic. needs_of traffic.handed) lanes.now) }
 {
     let mut needs = NeedsList::new(alloc);
@@ -276,7 +273,7 @@ fn needs_in(alloc: Global, lanes: &[Lane<'_>]) -> Result<NeedsList, OutOfMemory>
 }
 
 /// By processor its counts.
-fn counts_in(alloc: Global, lanes: &[Lane<'_>]) -> Result<NeedsList, OutOfMemory>
+fn counts_in(alloc: Global, lanes: &[Lane]) -> Result<NeedsList, OutOfMemory>
     ensures { IfOk result (λ counts. counts ≡ map (λ traffic. traffic.counts) lanes.now) }
 {
     let mut counts = NeedsList::new(alloc);

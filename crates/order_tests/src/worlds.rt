@@ -185,7 +185,7 @@ fn schedules_each_step_as_early_as_it_may(rt: HostRuntime) -> Result<(), Fail> {
     Ok(())
 }
 
-const FRAME: &[u8] = &[2, 0, 0, 0, 0, 1, 2, 0, 0, 0, 0, 2, 0x88, 0xB5];
+const FRAME: [u8; 14] = [2, 0, 0, 0, 0, 1, 2, 0, 0, 0, 0, 2, 0x88, 0xB5];
 
 /// An event in a table, on the one processor there is.
 #[derive(Clone, Copy)]
@@ -216,7 +216,7 @@ fn bytes_of(alloc: Global, bytes: &[u8]) -> Result<Bytes, OutOfMemory> {
     Ok(list)
 }
 
-fn event_of<'a>(alloc: Global, come: Come) -> Result<Event<'a>, OutOfMemory> {
+fn event_of(alloc: Global, come: Come) -> Result<Event, OutOfMemory> {
     Ok(match come {
         Come::Load => Event::Command(Command::FilterLoad {
             interface: bytes_of(alloc, b"eth0")?,
@@ -227,22 +227,28 @@ fn event_of<'a>(alloc: Global, come: Come) -> Result<Event<'a>, OutOfMemory> {
         Come::Status => Event::Command(Command::FilterStatus),
         Come::HandIn => Event::HandIn {
             processor: 0,
-            packet: Packet {
-                id: 0,
-                timestamp: 0,
-                frame: FRAME,
-            },
+            packet: packet_of(alloc, &FRAME)?,
         },
         Come::Carry => Event::Carry { processor: 0 },
         Come::Barrier => Event::Barrier,
     })
 }
 
+fn packet_of(alloc: Global, frame: &[u8; 14]) -> Result<Packet, OutOfMemory> {
+    let mut bytes = Bytes::new(alloc);
+    bytes.append(frame)?;
+    Ok(Packet {
+        id: 0,
+        timestamp: 0,
+        frame: bytes,
+    })
+}
+
 /// Makes an event come, if it is one that may be asked for.
-fn step_if_possible<'a>(
-    world: &mut World<'a>,
+fn step_if_possible(
+    world: &mut World,
     library: &Library,
-    event: &Event<'a>,
+    event: &Event,
 ) -> Option<Result<(), StepEnd>>
     requires { IsSound library.now }
 {
@@ -253,7 +259,7 @@ fn step_if_possible<'a>(
 }
 
 /// Whether the processor is there, and a command has a number left.
-fn is_possible(world: &World<'_>, event: &Event<'_>) -> bool
+fn is_possible(world: &World, event: &Event) -> bool
     ensures { IsTrue result → IsPossible world.now event.now }
 {
     match event {
@@ -267,7 +273,7 @@ fn is_possible(world: &World<'_>, event: &Event<'_>) -> bool
 }
 
 /// One interface with one queue, and a world over it.
-fn small_world<'a>(alloc: Global) -> Result<Option<(InterfaceList, World<'a>)>, OutOfMemory> {
+fn small_world(alloc: Global) -> Result<Option<(InterfaceList, World)>, OutOfMemory> {
     let mut interfaces = InterfaceList::new(alloc);
     interfaces.push(Interface {
         name: bytes_of(alloc, b"eth0")?,
@@ -276,10 +282,10 @@ fn small_world<'a>(alloc: Global) -> Result<Option<(InterfaceList, World<'a>)>, 
     new_world(alloc, interfaces)
 }
 
-fn new_world<'a>(
+fn new_world(
     alloc: Global,
     interfaces: InterfaceList,
-) -> Result<Option<(InterfaceList, World<'a>)>, OutOfMemory> {
+) -> Result<Option<(InterfaceList, World)>, OutOfMemory> {
     if !has_one_queue(interfaces.as_slice()) {
         return Ok(None);
     }

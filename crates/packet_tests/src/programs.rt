@@ -281,7 +281,7 @@ fn carried(
     let packet = Packet {
         id: 0,
         timestamp: 0,
-        frame: &FRAME,
+        frame: text(alloc, &FRAME)?,
     };
     traverse(&state, &library, &mut own, &packet);
     let trip = own.trip(alloc)?;

@@ -9,12 +9,14 @@ use xdp_state::{
 };
 use xio::Action;
 
-fn packet<'a>(frame: &'a [u8]) -> Packet<'a> {
-    Packet {
+fn packet(alloc: Global, bytes: &[u8; 14]) -> Result<Packet, OutOfMemory> {
+    let mut frame = Bytes::new(alloc);
+    frame.append(bytes)?;
+    Ok(Packet {
         id: 0,
         timestamp: 0,
         frame,
-    }
+    })
 }
 
 #[test]
@@ -50,7 +52,7 @@ fn drops_the_frame_that_a_rule_names(rt: HostRuntime) -> Result<(), Fail> {
     for (last, kind, action, rule) in rows {
         let frame = [2, 0, 0, 0, 0, last, 2, 0, 0, 0, 0, 2, kind[0], kind[1]];
         own.prepare(&state, &library)?;
-        traverse(&state, &library, &mut own, &packet(&frame));
+        traverse(&state, &library, &mut own, &packet(rt.alloc(), &frame)?);
         let trip = own.trip(rt.alloc())?;
         let [visit] = trip.visits.as_slice() else {
             return Err("not one visit")?;
@@ -131,7 +133,7 @@ fn keeps_the_frames_that_a_dump_asks_for(rt: HostRuntime) -> Result<(), Fail> {
         });
         own.prepare(&state, &library)?;
         let frame = [2, 0, 0, 0, 0, 1, 2, 0, 0, 0, 0, 2, 0x88, 0xB5];
-        traverse(&state, &library, &mut own, &packet(&frame));
+        traverse(&state, &library, &mut own, &packet(rt.alloc(), &frame)?);
         let trip = own.trip(rt.alloc())?;
         let visit = trip.visits.as_slice().first().ok_or("no visit")?;
         assert_eq!(rt; (sizes(&visit.entry), sizes(&visit.exit)), (entry, exit));

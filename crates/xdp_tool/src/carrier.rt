@@ -41,7 +41,7 @@ impl Carrier {
         alloc: Global,
         library: &Library,
         changes: &[Change],
-        hand_ins: &[HandInList<'_>],
+        hand_ins: &[HandInList],
         counts: &NeedsList,
     ) -> Result<List<CarriedList>, OutOfMemory>
         requires { IsSound library.now }
@@ -91,7 +91,7 @@ fn carry_due(
     state: &State,
     library: &Library,
     processors: &mut Vec<Processor>,
-    hand_ins: &[HandInList<'_>],
+    hand_ins: &[HandInList],
     counts: &NeedsList,
 ) -> Result<(), OutOfMemory>
     requires { IsSound library.now }
@@ -112,7 +112,7 @@ fn carry_due_at(
     library: &Library,
     processors: &mut Vec<Processor>,
     place: usize,
-    hand_ins: &[HandInList<'_>],
+    hand_ins: &[HandInList],
     counts: &NeedsList,
 ) -> Result<(), OutOfMemory>
     requires place { place < vec_len processors.old }
@@ -143,7 +143,7 @@ fn carry_due_on(
     state: &State,
     library: &Library,
     processor: &mut Processor,
-    hand_ins: &[HandIn<'_>],
+    hand_ins: &[HandIn],
     counts: &[u32],
 ) -> Result<(), OutOfMemory>
     requires { IsSound library.now }

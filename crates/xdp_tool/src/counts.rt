@@ -165,7 +165,7 @@ fn is_covered(whole: bool, same: bool, barrier: Option<u32>, rest: &[u8]) -> boo
 }
 
 /// The needs of the packets, by processor.
-fn needs_of(alloc: Global, hand_ins: &[HandInList<'_>]) -> Result<NeedsList, OutOfMemory>
+fn needs_of(alloc: Global, hand_ins: &[HandInList]) -> Result<NeedsList, OutOfMemory>
     ensures { IfOk result (λ needs. needs ≡ all_needs hand_ins.now) }
 {
     let mut needs = NeedsList::new(alloc);
@@ -175,7 +175,7 @@ fn needs_of(alloc: Global, hand_ins: &[HandInList<'_>]) -> Result<NeedsList, Out
     Ok(needs)
 }
 
-fn needs_in(alloc: Global, hand_ins: &[HandIn<'_>]) -> Result<CountList, OutOfMemory>
+fn needs_in(alloc: Global, hand_ins: &[HandIn]) -> Result<CountList, OutOfMemory>
     ensures { IfOk result (λ needs. needs ≡ map (λ (h : HandIn). h.need) hand_ins.now) }
 {
     let mut needs = CountList::new(alloc);

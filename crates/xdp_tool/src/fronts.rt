@@ -22,7 +22,7 @@ pub fn fronts_of(
     alloc: Global,
     lasts: &[u32],
     published: u32,
-    hand_ins: &[HandInList<'_>],
+    hand_ins: &[HandInList],
     counts: &[CountList],
 ) -> Result<Fronts, OutOfMemory>
     ensures counts { IfOk result (λ fronts. fronts.counts ≡ fronts_from true lasts.now published (all_needs hand_ins.now) counts.now) }
@@ -71,7 +71,7 @@ fn front_if(
     wanted: bool,
     before: u32,
     published: u32,
-    hand_ins: &[HandIn<'_>],
+    hand_ins: &[HandIn],
     counts: &[u32],
 ) -> Result<CountList, OutOfMemory>
     ensures { IfOk result (λ front. front ≡ front_if wanted before published (needs_of hand_ins.now) counts.now) }
@@ -88,7 +88,7 @@ fn front_of(
     alloc: Global,
     before: u32,
     published: u32,
-    hand_ins: &[HandIn<'_>],
+    hand_ins: &[HandIn],
     counts: &[u32],
 ) -> Result<CountList, OutOfMemory>
     ensures { IfOk result (λ front. front ≡ legal_front before published (needs_of hand_ins.now) counts.now) }

@@ -162,7 +162,7 @@ fn work<O: Sink, T: Sink>(
         Err(_) => return Err(Stop::OutOfMemory),
     };
     'phases: loop {
-        let barrier = match run.walk_phase() {
+        let barrier = match run.walk_phase(alloc) {
             Ok(barrier) => barrier,
             Err(_) => return Err(Stop::OutOfMemory),
         };

@@ -36,7 +36,7 @@ impl Processor {
         alloc: Global,
         state: &State,
         library: &Library,
-        packet: &Packet<'_>,
+        packet: &Packet,
     ) -> Result<(), OutOfMemory>
         requires { IsSound library.now }
         ensures carried { OnOk result (self.new.carried ≡ self.old.carried ++ record {
@@ -51,7 +51,7 @@ impl Processor {
         traverse(state, library, &mut self.own, packet);
         self.carried.push(Carried {
             count: state.count(),
-            handed: packet.frame.len() as u32,
+            handed: packet.frame.as_slice().len() as u32,
             traversal: self.own.trip(alloc)?,
         })
     }

@@ -68,7 +68,7 @@ impl<'a> Replay<'a> {
         alloc: Global,
         number: u32,
         published: u32,
-        hand_ins: &[HandInList<'_>],
+        hand_ins: &[HandInList],
     ) -> Result<Fronts, OutOfMemory>
         ensures counts { IfOk result (λ fronts. fronts.counts ≡ fronts_from true self.now.lasts published (all_needs hand_ins.now)
             (slice_index_or self.now.trace.now.choices number [])) }

@@ -70,7 +70,7 @@ impl<'a> Run<'a> {
     }
 
     /// Walks to the end of the phase, and publishes what is accepted. Answers the line of the barrier that ends it.
-    pub fn walk_phase(&mut self) -> Result<Option<u32>, OutOfMemory>
+    pub fn walk_phase(&mut self, alloc: Global) -> Result<Option<u32>, OutOfMemory>
         requires script { IsRunnable self.old.walk.script.now }
         requires room { HasRoom self.old }
         ensures ends { (begun : Begun) (past : Past) (standings : List Standing) (phase : Phase)
@@ -82,7 +82,7 @@ impl<'a> Run<'a> {
         ensures same_replay { self.new.replay ≡ self.old.replay }
     {
         'turns: loop {
-            match self.walk.next(&self.state)? {
+            match self.walk.next(alloc, &self.state)? {
                 Turn::Publish(change) => self.state.absorb(&change),
                 Turn::HandIn { .. } => {}
                 Turn::Again => {}

@@ -13,7 +13,7 @@ use crate::turn::Turn;
 use script_text::{Line, Outcome, What};
 use std::alloc::Global;
 use xdp_state::{Change, Command, HandIn, HandInList, Judgement, Packet, Reason, State, judge};
-use xio::OutOfMemory;
+use xio::{Bytes, OutOfMemory};
 
 /// A walk over the lines of a script, which plans and carries nothing: what came of the lines of the phase under way, the
 /// changes that it publishes, and by processor the packets that it hands in.
@@ -24,7 +24,7 @@ pub struct Walk<'a> {
     pub next: u32,
     pub items: Vec<Item>,
     pub changes: Vec<Change>,
-    pub hand_ins: Vec<HandInList<'a>>,
+    pub hand_ins: Vec<HandInList>,
     /// how many packets were handed in, and whether a command was refused, also in the phases before
     pub packets: u32,
     pub refused: bool,
@@ -61,7 +61,7 @@ impl<'a> Walk<'a> {
     }
 
     /// Takes the next line, with the state after all publications so far. Where memory is wanting all stays as it was.
-    pub fn next(&mut self, state: &State) -> Result<Turn, OutOfMemory>
+    pub fn next(&mut self, alloc: Global, state: &State) -> Result<Turn, OutOfMemory>
         requires script { IsRunnable self.old.script.now }
         requires within { self.old.next ≤ length self.old.script.now.lines }
         requires published { state.now.count ≤ self.old.next }
@@ -80,12 +80,12 @@ impl<'a> Walk<'a> {
         if self.next >= script.lines.len() {
             return Ok(Turn::End { barrier: None });
         }
-        let turn = self.step(state, script.lines.at(self.next))?;
+        let turn = self.step(alloc, state, script.lines.at(self.next))?;
         self.next += 1;
         Ok(turn)
     }
 
-    fn step(&mut self, state: &State, line: &'a Line) -> Result<Turn, OutOfMemory>
+    fn step(&mut self, alloc: Global, state: &State, line: &Line) -> Result<Turn, OutOfMemory>
         requires frame { has_frame line.now ≡ true }
         requires flags { has_flags line.now ≡ true }
         requires interfaces { length self.old.script.now.library.interfaces ≤ 8 }
@@ -102,7 +102,7 @@ impl<'a> Walk<'a> {
         match &line.what {
             What::Command(command) => self.answer(state, line.line, command.get()),
             What::Packet { processor, frame } => {
-                self.hand_in(state, line.line, *processor, frame.as_slice())
+                self.hand_in(alloc, state, line.line, *processor, frame.as_slice())
             }
             What::Barrier => Ok(Turn::End {
                 barrier: Some(line.line),
@@ -189,10 +189,11 @@ impl<'a> Walk<'a> {
     /// Hands a packet in.
     fn hand_in(
         &mut self,
+        alloc: Global,
         state: &State,
         line: u32,
         processor: u32,
-        frame: &'a [u8],
+        frame: &[u8],
     ) -> Result<Turn, OutOfMemory>
         requires frame { has_frame_size frame.now ≡ true }
         requires few { self.old.packets < 65536 }
@@ -202,7 +203,7 @@ impl<'a> Walk<'a> {
         ensures same_next { self.new.next ≡ self.old.next }
         ensures same { self.new.script.now ≡ self.old.script.now }
     {
-        let packet = packet_of(self.packets, line, frame);
+        let packet = packet_of(alloc, self.packets, line, frame)?;
         self.items.reserve(1)?;
         let hand_in = HandIn {
             packet,
@@ -237,7 +238,7 @@ impl<'a> Walk<'a> {
 }
 
 /// No packet of so many processors.
-fn no_hand_ins<'a>(alloc: Global, processors: usize) -> Result<Vec<HandInList<'a>>, OutOfMemory>
+fn no_hand_ins(alloc: Global, processors: usize) -> Result<Vec<HandInList>, OutOfMemory>
     ensures { IfOk result (λ lists. lists.items ≡ replicate processors []) }
 {
     let mut lists = Vec::new(alloc);
@@ -248,12 +249,12 @@ fn no_hand_ins<'a>(alloc: Global, processors: usize) -> Result<Vec<HandInList<'a
 }
 
 /// Puts a packet behind those of the processor.
-fn add_hand_in<'a>(
-    hand_ins: &mut Vec<HandInList<'a>>,
+fn add_hand_in(
+    hand_ins: &mut Vec<HandInList>,
     processor: u32,
-    hand_in: HandIn<'a>,
+    hand_in: HandIn,
 ) -> Result<(), OutOfMemory>
-    ensures ok { OnOk result (hand_ins.new.items ≡ handed_to processor hand_in.entry hand_ins.old.items) }
+    ensures ok { OnOk result (hand_ins.new.items ≡ handed_to processor hand_in hand_ins.old.items) }
     ensures err { OnErr result (hand_ins.new.items ≡ hand_ins.old.items) }
 {
     let place = processor as usize;
@@ -264,13 +265,15 @@ fn add_hand_in<'a>(
 }
 
 /// The packet of this number that a line hands in.
-fn packet_of<'a>(id: u32, line: u32, frame: &'a [u8]) -> Packet<'a>
-    requires { has_frame_size frame.now ≡ true }
-    ensures { result ≡ record { id = id; timestamp = 1000000 * line; frame = frame.now } }
+fn packet_of(alloc: Global, id: u32, line: u32, bytes: &[u8]) -> Result<Packet, OutOfMemory>
+    requires { has_frame_size bytes.now ≡ true }
+    ensures { IfOk result (λ packet. packet ≡ record { id = id; timestamp = 1000000 * line; frame = bytes.now }) }
 {
-    Packet {
+    let mut frame = Bytes::new(alloc);
+    frame.append(bytes)?;
+    Ok(Packet {
         id,
         timestamp: 1_000_000 * u64::from(line),
         frame,
-    }
+    })
 }

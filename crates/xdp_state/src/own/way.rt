@@ -24,7 +24,7 @@ use net_headers::headers;
 use xio::Action;
 
 /// Takes a packet through its interface's chain; `Own::trip` tells the way.
-pub fn traverse(state: &State, library: &Library, own: &mut Own, packet: &Packet<'_>)
+pub fn traverse(state: &State, library: &Library, own: &mut Own, packet: &Packet)
     requires sound { IsSound library.now }
     requires prepared { IsPrepared library.now own.old state.now }
     ensures standing { own.new.standing
@@ -32,7 +32,7 @@ pub fn traverse(state: &State, library: &Library, own: &mut Own, packet: &Packet
     ensures trip { own.new.trip ≡ Some (traversal_of (way_of library.now state.now own.old.standing packet.now)) }
 {
     own.trail.clear();
-    own.machine.frame.fill(packet.frame);
+    own.machine.frame.fill(packet.frame.as_slice());
     let env = Env {
         timestamp: packet.timestamp,
         processor: own.processor,

@@ -26,7 +26,7 @@ returns c =
     } in
     let env_is : env ≡ env_of c.args.own.now.standing c.args.packet.now = rw (← c.own.view_is, ← c.packet.view_is) refl in
     let dump_is : c.dump.result ≡ dump_on c.args.state.now.dumps c.args.own.now.standing.interface = rw (← c.own.view_is) c.dump.ensures in
-    let packet_is : c.fill.new.self ≡ filled c.args.packet.now.frame = c.fill.ensures ∙ ap filled (ap (λ (packet : Handed). packet.frame) c.packet.view_is) in
+    let packet_is : c.fill.new.self ≡ filled c.args.packet.now.frame = c.fill.ensures ∙ ap filled (c.as_slice.ensures ∙ ap (λ (packet : Handed). packet.frame) c.packet.view_is) in
     let stores_is : own.machine.stores.items ≡ c.args.own.now.standing.stores = rw (← c.own.view_is) refl in
     let chain_is : c.chain.result.now ≡ chain_on c.args.state.now.members c.args.own.now.standing.interface = rw (← c.own.view_is) c.chain.ensures in
     let way : way_of c.args.library.now c.args.state.now c.args.own.now.standing c.args.packet.now ≡ left =

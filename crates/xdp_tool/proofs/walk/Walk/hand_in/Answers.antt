@@ -16,7 +16,7 @@ returns-clause-goes c = λ begun phase at same.
       record {
         items = rw (c.push_reserved.ensures.items, c.in_ok-reserve.ensures.items, at.items, number') refl;
         published = at.published;
-        hand_ins = rw (c.in_ok-add_hand_in.ensures.ok, c.packet_of-packet.ensures, at.hand_ins, number, at.packets) refl;
+        hand_ins = rw (c.in_ok-add_hand_in.ensures.ok, c.in_ok-packet.ensures, at.hand_ins, number, at.packets) refl;
         packets = ap (λ n. n + 1) at.packets;
         refused = refused-push begun.refused phase.items item _ at.refused refl;
         taken = at.taken;
