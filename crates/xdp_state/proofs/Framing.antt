@@ -1,15 +1,13 @@
 -- Frames that stand one behind another in a buffer.
-use Rattle.std.proofs.Common.{◌≡◌, ℕ, zero, suc, ◌+◌, ◌*◌, ◌<◌, ◌≤◌, List, [], ◌∷◌, ◌++◌, drop, length, map, take, refl, ap, ◌∙◌, subst, slice_get, Option, Some, None, arith}
+use Rattle.std.proofs.Common.{◌≡◌, ℕ, ◌+◌, ◌≤◌, List, [], ◌∷◌, ◌++◌, drop, length, take, refl, ap, ◌∙◌, subst, Option, Some, None, arith}
 use Rattle.std.specs.Prelude.{option_map}
 use Rattle.std.specs.List.{AllByRecursion}
 use Rattle.std.proofs.Math.Seq.{drop-append_seam}
-use Rattle.std.proofs.lemmas.List.{append-nil, drop-append-le, length-drop, length-map, map-append, take-append-le, take_all}
-use Rattle.std.proofs.lemmas.Option.{slice_get-map}
-use Rattle.xdp_state.specs.Dump.{captured, captured_at}
+use Rattle.std.proofs.lemmas.List.{drop-append-le, length-drop, map-append, take-append-le, take_all}
+use Rattle.xdp_state.specs.Dump.{captured}
 use Rattle.xdp_state.specs.Frames.{IsInside, frames_in, marked}
 use Rattle.xdp_state.specs.declared.dump.Captured.{Captured}
 use Rattle.xdp_state.specs.declared.frames.Mark.{Mark}
-use Rattle.xdp_state.proofs.Sorting.{all-append}
 
 -- more bytes behind them
 marked-grown : (bytes more : List ℕ) (mark : Mark) → mark.start + mark.kept ≤ length bytes → marked (bytes ++ more) mark ≡ marked bytes mark
@@ -44,25 +42,3 @@ marked-last bytes frame snap start mark long is =
     ap (marked (bytes ++ kept)) is
     ∙ ap (λ bytes. let c : Captured = record { length = length frame; snap = snap; kept = bytes } in c)
     (ap (λ start. take (length kept) (drop start (bytes ++ kept))) long ∙ ap (take (length kept)) (drop-append_seam bytes kept) ∙ take_all (length kept) kept (omega arith))
-
-inside-one : (size more : ℕ) (mark : Option Mark) → size ≤ more → IsInside size mark → IsInside more mark
-inside-one size more None few inside = tt
-inside-one size more (Some mark) few inside = omega (arith, inside, few)
-
-inside-grown : (size more : ℕ) (marks : List (Option Mark)) → size ≤ more → AllByRecursion (IsInside size) marks → AllByRecursion (IsInside more) marks
-inside-grown size more [] few inside = tt
-inside-grown size more (mark ∷ marks) few inside = (inside-one size more mark few inside.0, inside-grown size more marks few inside.1)
-
-pub inside-more : (size more : ℕ) (marks : List (Option Mark)) (mark : Option Mark) → size ≤ more → AllByRecursion (IsInside size) marks → IsInside more mark → AllByRecursion (IsInside more) (marks ++ mark ∷ [])
-inside-more size more marks mark few inside last =
-    all-append (IsInside more) marks (mark ∷ []) (inside-grown size more marks few inside) (last, tt)
-
--- the mark at a place
-pub frame-at : (bytes : List ℕ) (marks : List (Option Mark)) (place : ℕ) (mark : Option Mark) → slice_get marks place ≡ Some mark → slice_get (frames_in bytes marks) place ≡ Some (option_map (marked bytes) mark)
-frame-at bytes marks place mark is =
-    slice_get-map (λ m. option_map (marked bytes) m) marks place ∙ ap (option_map (λ m. option_map (marked bytes) m)) is
-
-pub inside-at : (size : ℕ) (marks : List (Option Mark)) (place : ℕ) (mark : Option Mark) → AllByRecursion (IsInside size) marks → slice_get marks place ≡ Some mark → IsInside size mark
-inside-at size [] place mark inside is = absurd cc
-inside-at size (m ∷ marks) zero mark inside is = let same : m ≡ mark = cc in subst (IsInside size) same inside.0
-inside-at size (m ∷ marks) (suc place) mark inside is = inside-at size marks place mark inside.1 is

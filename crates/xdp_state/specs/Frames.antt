@@ -1,5 +1,5 @@
 -- Frames that are kept one behind another in one buffer.
-use Rattle.std.specs.Prelude.{◌≡◌, ℕ, ◌+◌, ◌*◌, ◌≤◌, List, drop, length, map, take, Option, Some, None, vec_capacity, vec_len, ⊤}
+use Rattle.std.specs.Prelude.{ℕ, ◌+◌, ◌*◌, ◌≤◌, List, drop, map, take, Option, Some, None, vec_capacity, vec_len, ⊤}
 use Rattle.std.specs.List.{AllByRecursion}
 use Rattle.std.specs.Option.{option_map}
 use Rattle.xdp_state.specs.declared.dump.Captured.{Captured}

@@ -1,6 +1,5 @@
 -- What the members made of a packet, with the frames that a dump keeps of it.
 use Rattle.std.specs.Prelude.{◌≡◌, ◌≤◌, List, [], ◌∷◌, length, Option, vec_capacity}
-use Rattle.chain_order.specs.declared.member.Kind.{Kind}
 use Rattle.xdp_state.specs.declared.dump.Captured.{Captured}
 use Rattle.xdp_state.specs.declared.trail.Seen.{Seen}
 use Rattle.xdp_state.specs.declared.trail.Trail.{Trail}

@@ -1,4 +1,4 @@
-use Rattle.std.proofs.Common.{ap, refl, Some}
+use Rattle.std.proofs.Common.{ap, Some}
 use Rattle.xdp_state.specs.declared.dump.Captured.{Captured}
 use Rattle.xdp_state.proofs.Framing.{marked-last}
 use Rattle.xdp_state.proofs.frames.keep_if.Goals as goal

@@ -1,4 +1,3 @@
-use Rattle.std.proofs.Common.{refl, ◌∙◌}
 use Rattle.xdp_state.specs.Dump.{captured_at, kept_of}
 use Rattle.xdp_state.proofs.Framing.{frames-more}
 use Rattle.xdp_state.proofs.frames.Frames.put.Goals as goal

@@ -1,8 +1,7 @@
-use Rattle.std.proofs.Common.{◌≡◌, [], ◌∷◌, ◌++◌, length, ap, sym, ◌∙◌, arith}
+use Rattle.std.proofs.Common.{[], ◌∷◌, ◌++◌, ap, sym, ◌∙◌, arith}
 use Rattle.std.proofs.lemmas.List.{take_all}
 use Rattle.run_config.proofs.Parts.{take-next}
 use Rattle.xdp_state.specs.Trails.{visits_in}
-use Rattle.xdp_state.specs.declared.traversal.Visit.{Visit}
 use Rattle.xdp_state.proofs.Ways.{visits-long}
 use Rattle.xdp_state.proofs.trail.Trail.copy.Goals as goal
 
