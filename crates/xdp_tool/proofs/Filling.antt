@@ -1,5 +1,5 @@
 -- What sinks hold once a run has flushed them.
-use Rattle.std.proofs.Common.{◌≡◌, ◌⊎◌, ℕ, inl, inr, Bool, List, [], ◌++◌, length, append_assoc, take, IsTrue, Result, Ok, Err, ap, ◌∙◌}
+use Rattle.std.proofs.Common.{◌≡◌, ◌⊎◌, ℕ, inl, inr, Bool, List, [], ◌++◌, length, append_assoc, take, IsTrue, OnOk, Result, Ok, Err, ap, ◌∙◌}
 use Rattle.std.specs.Prelude.{if◌then◌else◌}
 use Rattle.xio.proofs.PrefixLemmas.{prefix_more}
 use Rattle.xio.specs.Prefixes.{AppendsPrefix}
@@ -43,27 +43,32 @@ puts-begun (Err Fault) old first begun new text is (n, put) = begun-whole old fi
 puts-begun (Err OutOfMemory) old first begun new text is (n, put) = begun-whole old first begun new (take n text) is put
 
 -- a run that stopped
-pub fills-stopped : {S : Type 0} (held : S → List ℕ) (flushed : S → ℕ) (old middle new : S) (text : List ℕ) (stop : Stop) → StopsText {A = Bool} (Err stop) (held old) (held middle) text → held new ≡ held middle → FillsSink {A = Bool} held flushed old new text (Err stop)
-fills-stopped held flushed old middle new text (Differs line) put same =
+stopped : {S : Type 0} (held : S → List ℕ) (flushed : S → ℕ) (old middle new : S) (text : List ℕ) (stop : Stop) → StopsText {A = Bool} (Err stop) (held old) (held middle) text → held new ≡ held middle → FillsSink {A = Bool} held flushed old new text (Err stop)
+stopped held flushed old middle new text (Differs line) put same =
     record { front = prefix-whole _ _ _ (same ∙ put); whole = same ∙ put; all_flushed = tt }
-fills-stopped held flushed old middle new text Fault put same = record { front = rw same put; whole = tt; all_flushed = tt }
-fills-stopped held flushed old middle new text OutOfMemory put same = record { front = rw same put; whole = tt; all_flushed = tt }
+stopped held flushed old middle new text Fault put same = record { front = rw same put; whole = tt; all_flushed = tt }
+stopped held flushed old middle new text OutOfMemory put same = record { front = rw same put; whole = tt; all_flushed = tt }
+
+pub fills-stopped : {S : Type 0} (held : S → List ℕ) (flushed : S → ℕ) (old middle new : S) (text : List ℕ) (worked : Result Bool Stop) (stop : Stop) → worked ≡ Err stop → StopsText worked (held old) (held middle) text → held new ≡ held middle → FillsSink {A = Bool} held flushed old new text (Err stop)
+fills-stopped held flushed old middle new text worked stop is put same =
+    stopped held flushed old middle new text stop (rw is at put) same
 
 -- one that came to its end, and couldn't flush all
-pub fills-unflushed : {S : Type 0} (held : S → List ℕ) (flushed : S → ℕ) (old middle new : S) (text : List ℕ) → held middle ≡ held old ++ text → held new ≡ held middle → FillsSink {A = Bool} held flushed old new text (Err Fault)
-fills-unflushed held flushed old middle new text whole same = record { front = prefix-whole _ _ _ (same ∙ whole); whole = tt; all_flushed = tt }
+pub fills-unflushed : {S : Type 0} (held : S → List ℕ) (flushed : S → ℕ) (old middle new : S) (text : List ℕ) (worked : Result Bool Stop) (refused : Bool) → worked ≡ Ok refused → StopsText worked (held old) (held middle) text → held new ≡ held middle → FillsSink {A = Bool} held flushed old new text (Err Fault)
+fills-unflushed held flushed old middle new text worked refused is put same =
+    record { front = prefix-whole _ _ _ (same ∙ (rw is at put)); whole = tt; all_flushed = tt }
 
 -- one that came to its end
-pub fills-ended : {S : Type 0} (held : S → List ℕ) (flushed : S → ℕ) (old middle new : S) (text : List ℕ) (refused : Bool) → held middle ≡ held old ++ text → held new ≡ held middle → flushed new ≡ length (held new) → FillsSink held flushed old new text (Ok refused)
-fills-ended held flushed old middle new text refused whole same all =
-    record { front = prefix-whole _ _ _ (same ∙ whole); whole = same ∙ whole; all_flushed = all }
+pub fills-ended : {S E : Type 0} (held : S → List ℕ) (flushed : S → ℕ) (old middle new : S) (text : List ℕ) (worked : Result Bool Stop) (settled : Result Unit E) (refused : Bool) → worked ≡ Ok refused → settled ≡ Ok tt → StopsText worked (held old) (held middle) text → held new ≡ held middle → OnOk settled (flushed new ≡ length (held new)) → FillsSink held flushed old new text (Ok refused)
+fills-ended held flushed old middle new text worked settled refused is flushes put same all =
+    let whole = same ∙ (rw is at put) in record { front = prefix-whole _ _ _ whole; whole = whole; all_flushed = rw flushes at all }
 
-pub performs-unflushed : (performed : Performance) (choices : List (List (List ℕ))) (refused : Bool) → Performs performed choices (Ok refused) → Performs performed choices (Err Fault)
-performs-unflushed performed choices refused performs = record {
+pub performs-unflushed : (performed : Performance) (choices : List (List (List ℕ))) (worked : Result Bool Stop) (refused : Bool) → worked ≡ Ok refused → Performs performed choices worked → Performs performed choices (Err Fault)
+performs-unflushed performed choices worked refused is performs = record {
   legal = performs.legal;
   covered = tt;
   refused = tt;
-  replayed = replay-unflushed performed.script.library performed.trace _ choices refused performs.replayed;
+  replayed = replay-unflushed performed.trace performed.script.library _ choices refused (rw is at performs.replayed);
 }
 
 -- the first line stands in the trace also after flushes

@@ -5,7 +5,7 @@ use Rattle.std.specs.List.{join_with_byte}
 use Rattle.std.specs.Str.{bytes_eq}
 use Rattle.std.proofs.lemmas.Bool.{cases_Bool, false≢true}
 use Rattle.std.proofs.lemmas.Bool.Decides.{nat_tests}
-use Rattle.std.proofs.lemmas.List.{length-map, length-replicate}
+use Rattle.std.proofs.lemmas.List.{length-replicate}
 use Rattle.std.proofs.lemmas.List.Splits.{join_with_byte-slice_split}
 use Rattle.std.proofs.lemmas.Slice.Eq.{bytes_eq-Decides}
 use Rattle.command_line.specs.Names.{Names}
@@ -25,6 +25,7 @@ use Rattle.xdp_state.specs.declared.judgement.Judgement.{Judgement}
 use Rattle.xdp_state.specs.declared.judgement.Judgement.TheVariants.{Accepted, Shown, Refused}
 use Rattle.xdp_state.specs.declared.library.Library.{Library}
 use Rattle.xio.specs.Told.{Told}
+use Rattle.xdp_tool.proofs.Due.{length-standing}
 use Rattle.xdp_tool.proofs.LegalTraces.{AreFor, legal-covered, traces-whole}
 use Rattle.xdp_tool.proofs.Phases.{length-traversals}
 use Rattle.xdp_tool.proofs.Performing.{with-trace, without-trace}
@@ -40,7 +41,7 @@ use Rattle.xdp_tool.specs.Table.{table_of}
 use Rattle.xdp_tool.specs.declared.table.Table.{Table}
 use Rattle.xdp_tool.specs.Trace.{traces_from}
 use Rattle.xdp_tool.specs.TraceOf.{CanBeTraced, IsNoTrace, IsTraceOf}
-use Rattle.xdp_tool.specs.Traversed.{standing_of, standings_of}
+use Rattle.xdp_tool.specs.Traversed.{standings_of}
 use Rattle.xdp_tool.specs.declared.ending.Ending.{Ending}
 use Rattle.xdp_tool.specs.declared.ending.Ending.TheVariants.{Done, Limit, TraceDiffers}
 use Rattle.xdp_tool.specs.declared.ending.LimitName.TheVariants as limit
@@ -117,7 +118,7 @@ pub data Unread (text : List ℕ) (ending : Ending) : Type 0 where
 
 differs-as : (text : List ℕ) (read : Result (List (List (List ℕ))) ℕ) (ending : Ending) → or_differs text read ≡ Err ending → trace_read text ≡ read → Unread text ending
 differs-as text (Ok choices) ending is reads = absurd cc
-differs-as text (Err line) ending is reads = differs line cc reads
+differs-as text (Err line) ending is reads = let same : ending ≡ TraceDiffers line = cc in differs line same reads
 
 trace-not : (text : List ℕ) (ending : Ending) → trace_at text ≡ Err ending → Unread text ending
 trace-not text ending is = by_size (nat_lt 201326592 (length text)) is
@@ -170,7 +171,7 @@ run-covered script trace text choices same read can is =
     let standings = standings_of (queues_of script.library.interfaces) in
     let phases = plan script in
     let unclosed = plan-ended script.library (opened (length (queues_of script.library.interfaces)) [] 0) script.lines refl in
-    let queues : length standings ≡ length (queues_of script.library.interfaces) = length-map (queues_of script.library.interfaces) standing_of in
+    let queues : length standings ≡ length (queues_of script.library.interfaces) = length-standing 0 (queues_of script.library.interfaces) in
     let fits : AreFor (length standings) phases = rw queues (plan-for script.library (opened (length (queues_of script.library.interfaces)) [] 0) script.lines (length-replicate (length (queues_of script.library.interfaces)) _)) in
     let back = traced-read script text choices can is in
     let has : trace.choices ≡ map counts_in (traversals script.library standings (works_of phases) choices) = let both = sym read ∙ back in cc in

@@ -1,6 +1,6 @@
 -- The trace of a run with legal counts, as it is replayed.
 use Rattle.std.proofs.Common.{◌≡◌, ℕ, ◌+◌, ◌-◌, ◌^◌, ◌<◌, ◌≤◌, ◌&&◌, ◌==◌, Bool, true, false, zero, suc, List, [], ◌∷◌, ◌++◌, length, drop, map, append-nil, append_assoc, Option, Some, None, refl, sym, ap, ◌∙◌, arith}
-use Rattle.std.specs.Prelude.{if◌then◌else◌, replicate, slice_index_or}
+use Rattle.std.specs.Prelude.{if◌then◌else◌, replicate, slice_index_or, ⊤}
 use Rattle.std.proofs.lemmas.Bool.Decides.{nat_tests}
 use Rattle.std.proofs.lemmas.List.{length-map}
 use Rattle.script_text.specs.Trace.{heading, last_line, phases_trace, processors_trace}
@@ -70,7 +70,7 @@ counts-one library published standing last high [] [] legal = refl
 counts-one library published standing last high [] (c ∷ counts) legal = absurd legal
 counts-one library published standing last high (h ∷ hs) [] legal = absurd legal
 counts-one library published standing last high (h ∷ hs) (c ∷ counts) legal =
-    ap (λ more. c ∷ more) (counts-one library published standing c high hs counts legal.3)
+    ap (λ more. c ∷ more) (counts-one library published _ c high hs counts legal.3)
 
 counts-carried : (library : Library) (published : List Change) (high : ℕ) (lasts : List ℕ) (ss : List Standing) (hss : List (List HandIn)) (counts : List (List ℕ)) → length ss ≡ length hss → AreLegalFrom lasts high (all_needs hss) counts → map counts_on (carried_in library published ss hss counts) ≡ counts
 counts-carried library published high lasts [] [] [] same legal = refl

@@ -93,6 +93,10 @@ pub replay-next : (trace : Option Trace) (old new : Option Replay) (library : Li
 replay-next trace old new library plan choices now standings phase counts left pushed is goes =
     rw pushed (replay-goes trace old new library plan choices standings phase counts left is goes)
 
+-- a walk to the phase's end changes nothing of it
+pub replay-walked : (trace : Option Trace) (old walked : Option Replay) (library : Library) (plan : List Phase) (choices : List (List (List ℕ))) (standings : List Standing) (left : List Phase) (phase : Phase) (behind : List Phase) → walked ≡ old → left ≡ phase ∷ behind → IsReplaying library trace old plan choices standings left → IsReplaying library trace walked plan choices standings (phase ∷ behind)
+replay-walked trace old walked library plan choices standings left phase behind same is replaying = rw (same, ← is) replaying
+
 -- a phase that ended, or that was cut short
 pub replay-cut : (A : Type 0) (trace : Option Trace) (old new : Option Replay) (library : Library) (plan : List Phase) (choices now : List (List (List ℕ))) (standings : List Standing) (phase : Phase) (counts : List (List ℕ)) (left : List Phase) (stop : Stop) → IsReplaying library trace old plan choices standings (phase ∷ left) → EndsChoices (Err stop) choices now counts → OnChosen (Err stop) (GoesOn library old new (length choices) standings phase counts) → ((line : ℕ) → stop ≡ Differs line → DiffersAt library old (length choices) standings phase line) → IsReplayedTo {A = A} (Err stop) library trace plan now
 replay-cut A trace old new library plan choices now standings phase counts left Fault is chosen goes differs =

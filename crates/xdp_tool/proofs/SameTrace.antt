@@ -3,7 +3,7 @@ use Rattle.std.proofs.Common.{◌≡◌, ℕ, ◌+◌, ◌&&◌, ◌==◌, Bool,
 use Rattle.std.specs.Prelude.{if◌then◌else◌, nat_eq, slice_index_or}
 use Rattle.std.specs.Cmp.Lexicographic.{pointwise}
 use Rattle.std.specs.List.{concat, starts_with}
-use Rattle.std.proofs.lemmas.Bool.{and_parts, cases_Bool}
+use Rattle.std.proofs.lemmas.Bool.{and_parts, cases_Bool, false≢true}
 use Rattle.std.proofs.lemmas.Bool.Decides.{nat_tests}
 use Rattle.script_text.specs.Trace.{heading, last_line, packet_trace, packets_trace, processors_trace}
 use Rattle.script_text.specs.declared.what.Line.{Line}
@@ -141,7 +141,7 @@ covered-by number phase counts carried rest true covered =
 
 nothing-left : (barrier : Option ℕ) (rest : List ℕ) → barrier ≡ None → may_end barrier rest ≡ true → rest ≡ []
 nothing-left None [] last end = refl
-nothing-left None (b ∷ rest) last end = absurd cc
+nothing-left None (b ∷ rest) last end = absurd (false≢true end)
 nothing-left (Some line) rest last end = absurd cc
 
 -- what a covered plan's choices are, and what is left of the text behind its first phase

@@ -9,9 +9,9 @@ returns-in-Some-clause-replays c = λ begun standings phase at stands same publi
 
 pub returns-in_ok-carry_at_hand_in-in-None-clause-carries : goal.returns-in_ok-carry_at_hand_in-in-None-clause-carries
 returns-in_ok-carry_at_hand_in-in-None-clause-carries c = λ begun standings phase at stands same published.
-    c.in_ok-carry_at_hand_in.ensures.carries begun standings phase at stands same
+    c.in_ok-carry_at_hand_in-in-None.ensures.carries begun standings phase at stands same
 
 pub returns-in_ok-carry_at_hand_in-in-None-clause-legal : goal.returns-in_ok-carry_at_hand_in-in-None-clause-legal
 returns-in_ok-carry_at_hand_in-in-None-clause-legal c = λ begun phase lasts at published within has.
-    rw (c.in_ok-carry_at_hand_in.ensures.counts ∙ ap all_needs at.hand_ins, published)
+    rw (c.in_ok-carry_at_hand_in-in-None.ensures.counts ∙ ap all_needs at.hand_ins, published)
     (legal-steady (length begun.published) (length phase.work.published) lasts phase.work.hand_ins within at.steady)

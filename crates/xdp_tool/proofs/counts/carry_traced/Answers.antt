@@ -6,7 +6,7 @@ use Rattle.xdp_state.specs.Legal.{lasts_of}
 use Rattle.xdp_state.specs.Work.{all_needs, needs_of}
 use Rattle.xdp_tool.proofs.LegalFronts.{due-fronts, length-fronts, legal-whole}
 use Rattle.xdp_tool.proofs.ReplayLemmas.{replayed-known}
-use Rattle.xdp_tool.specs.Replay.{Replayed, are_whole, fronts_from, line_of_rest}
+use Rattle.xdp_tool.specs.Replay.{Replayed, line_of_rest, may_end}
 use Rattle.xdp_tool.specs.declared.replay.Trace.{Trace}
 use Rattle.xdp_tool.proofs.counts.carry_traced.Goals as goal
 
@@ -31,7 +31,7 @@ returns-clause-legal c = λ begun phase lasts at published within is.
       | inl good ↦ good
       | inr bad ↦ absurd (let wrong = rw bad at c.if-not-is_covered.false in cc)
     ] in
-    let covered = and_parts _ _ (sym c.is_covered.ensures ∙ is_so) in
+    let covered = and_parts c.in_ok-fronts.fronts.whole (c.in_ok-same.same && may_end c.args.end.barrier c.passes_phase.new.self.rest.now) (sym c.is_covered.ensures ∙ is_so) in
     let whole = rw (c.in_ok-fronts.ensures.whole, hand_ins, counts) at covered.0 in
     rw counts (legal-whole (length phase.work.published) lasts (all_needs phase.work.hand_ins) _ whole)
 

@@ -1,9 +1,10 @@
-use Rattle.std.proofs.Common.{ap, refl, sym, length, map, ◌∙◌}
+use Rattle.std.proofs.Common.{ap, refl, rules, sym, length, map, ◌∙◌}
 use Rattle.xdp_tool.specs.Plan.{closed}
 use Rattle.xdp_tool.specs.QueueView.{queue_of}
 use Rattle.xdp_tool.specs.Queues.{queues_of}
 use Rattle.xdp_tool.specs.Ran.{carried_by, last_counts}
 use Rattle.xdp_tool.specs.declared.shown.Shown.{Shown}
+use Rattle.xdp_tool.proofs.Ends.{line-known}
 use Rattle.xdp_tool.proofs.perform.end_phase.Goals as goal
 
 pub write_phase-requires-clause-waiting : goal.write_phase-requires-clause-waiting
@@ -81,17 +82,21 @@ returns-clause-out g c = λ tells begun past standings phase stands.
     let walks = c.in-Ok.ensures.walks begun past standings phase stands in
     let shows = c.in-Ok.ensures.shows begun past standings phase stands in
     let is = c.in-Ok.ensures.closes begun past standings phase stands in
-    rw (walks.library, c.close.ensures.same) at (c.in-Err-write_phase.ensures.out tells begun.published (closed c.args.barrier phase) past (carried_by c.args.run.now.walk.script.now.library standings phase (last_counts c.close.new.choices)) shows is)
+    rw (walks.library, c.close.ensures.same) at (c.in-Err.ensures.out tells begun.published (closed c.args.barrier phase) past (carried_by c.args.run.now.walk.script.now.library standings phase (last_counts c.close.new.choices)) shows is)
 
 pub returns-clause-trace : goal.returns-clause-trace
 returns-clause-trace g c = λ tells begun past standings phase stands.
     let is = c.in-Ok.ensures.closes begun past standings phase stands in
     let numbered = c.in-Ok.ensures.numbered in
-    rw (numbered.0, numbered.1, is.lists) at (c.in-Err-write_phase.ensures.trace tells)
+    rw (numbered.0, numbered.1, is.lists) at (c.in-Err.ensures.trace tells)
 
 pub returns-clause-ordered : goal.returns-clause-ordered
 returns-clause-ordered g c = λ told tells begun past standings phase stands.
     let walks = c.in-Ok.ensures.walks begun past standings phase stands in
     let shows = c.in-Ok.ensures.shows begun past standings phase stands in
     let is = c.in-Ok.ensures.closes begun past standings phase stands in
-    rw (walks.library, c.close.ensures.same) at (c.in-Err-write_phase.ensures.ordered told tells begun.published (closed c.args.barrier phase) past (carried_by c.args.run.now.walk.script.now.library standings phase (last_counts c.close.new.choices)) shows is)
+    rw (walks.library, c.close.ensures.same) at (c.in-Err.ensures.ordered told tells begun.published (closed c.args.barrier phase) past (carried_by c.args.run.now.walk.script.now.library standings phase (last_counts c.close.new.choices)) shows is)
+
+pub returns-in-Err-Differs-clause-differs : goal.returns-in-Err-Differs-clause-differs
+returns-in-Err-Differs-clause-differs g c = λ begun past standings phase line stands is.
+    c.close.ensures.differs begun past standings phase line stands (line-known c.close.result c.in-Err-Differs.line line (search rules) is)

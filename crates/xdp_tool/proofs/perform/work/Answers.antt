@@ -1,15 +1,15 @@
-use Rattle.std.proofs.Common.{[], ◌∷◌, ◌++◌, length, Ok, Err, ap, sym, ◌∙◌, refl, arith, append-nil, not}
+use Rattle.std.proofs.Common.{Bool, [], ◌∷◌, ◌++◌, length, drop, Ok, Err, ap, sym, ◌∙◌, refl, arith, append-nil, not}
 use Rattle.xdp_tool.specs.declared.prepared.Prepared.{Prepared}
 use Rattle.xdp_state.specs.Sums.{no_past, past_with}
 use Rattle.xdp_tool.proofs.Ordering.{ended-ordered, none-ordered, stopped-ordered}
 use Rattle.xdp_tool.proofs.Running.{ended-legal, ended-out, ended-trace, ran-more, ran-next, ran-none, stopped-legal, stopped-out, stopped-trace, traces-none}
-use Rattle.xdp_tool.proofs.ReplayLemmas.{has-lasts, numbered-by, replay-cut, replay-ends, replay-next, replay-none, replay-starts, replay-wants}
+use Rattle.xdp_tool.proofs.ReplayLemmas.{has-lasts, numbered-by, replay-cut, replay-ends, replay-next, replay-none, replay-starts, replay-walked, replay-wants}
 use Rattle.xdp_tool.proofs.Working.{behind-last, behind-more, plan-last, plan-more, steps-of}
 use Rattle.xdp_tool.specs.Plan.{closed, has_refusal, next_of, opened, plan}
 use Rattle.xdp_tool.specs.Queues.{queues_of}
 use Rattle.xdp_tool.specs.Ran.{carried_by, last_counts, standings_by}
 use Rattle.xdp_tool.specs.Traversed.{standings_of}
-use Rattle.xdp_tool.specs.Walked.{begun_after, no_begun}
+use Rattle.xdp_tool.specs.Walked.{begun_after, no_begun, phases_behind}
 use Rattle.xdp_tool.proofs.perform.work.Goals as goal
 
 pub returns-in-Err-clause-ordered : goal.returns-in-Err-clause-ordered
@@ -163,6 +163,9 @@ phases-preserved g c =
     let counts = c.in-Ok-end_phase.ensures.choices in
     let script = c.end_phase.ensures.same ∙ (c.walk_phase.ensures.same ∙ inv.same) in
     let room = c.in-Ok-walk_phase.ensures.has_room in
+    let lines = drop c.walk_phase.new.self.walk.next c.args.performed.now.script.lines in
+    let replaying = replay-walked c.args.performed.now.trace _ c.walk_phase.new.self.replay library (plan c.args.performed.now.script) c.phases.choices inv.standings _ phase (phases_behind library c.in-Ok-walk_phase.barrier ends.phase lines) c.walk_phase.ensures.same_replay (rw (c.walk_phase.ensures.same, inv.same) at ends.phases) inv.replays in
+    let next = replay-next c.args.performed.now.trace c.walk_phase.new.self.replay c.end_phase.new.run.replay library (plan c.args.performed.now.script) c.phases.choices c.end_phase.new.choices inv.standings phase (last_counts c.end_phase.new.choices) (phases_behind library c.in-Ok-walk_phase.barrier ends.phase lines) c.in-Ok-end_phase.ensures.choices replaying (rw (c.walk_phase.ensures.same, inv.same) at (c.in-Ok-end_phase.ensures.replays inv.begun inv.past inv.standings ends.phase ends.stands)) in
     record {
       done = inv.done ++ phase ∷ [];
       begun = begun_after inv.begun ends.phase;
@@ -173,8 +176,7 @@ phases-preserved g c =
       stands = (rw (c.walk_phase.ensures.same, inv.same) at (c.in-Ok-end_phase.ensures.stands inv.begun inv.past inv.standings ends.phase ends.stands));
       plan_is = rw c.end_phase.ensures.same_next (plan-more library (plan c.args.performed.now.script) inv.done ends.phase c.in-Ok-walk_phase.barrier _ (ap not c.is_none.ensures ∙ ap (λ r. not (not r)) c.if-is_none.false) whole);
       same = script;
-      replays = rw (behind-more library ends.phase c.in-Ok-walk_phase.barrier _ (ap not c.is_none.ensures ∙ ap (λ r. not (not r)) c.if-is_none.false)) at (replay-next _ c.walk_phase.new.self.replay c.end_phase.new.run.replay _ (plan c.args.performed.now.script) c.phases.choices c.end_phase.new.choices inv.standings phase (last_counts c.end_phase.new.choices) _ counts
-          (rw c.walk_phase.ensures.same_replay (rw (rw (c.walk_phase.ensures.same, inv.same) at ends.phases) at inv.replays)) (rw (c.walk_phase.ensures.same, inv.same) at (c.in-Ok-end_phase.ensures.replays inv.begun inv.past inv.standings ends.phase ends.stands)));
+      replays = rw c.end_phase.ensures.same_next (rw (behind-more library ends.phase c.in-Ok-walk_phase.barrier lines (ap not c.is_none.ensures ∙ ap (λ r. not (not r)) c.if-is_none.false)) at next);
       room = record {
         within = omega (arith, room.within, c.end_phase.ensures.same_next, ap (λ (s : Prepared). length s.lines) c.end_phase.ensures.same);
         published = omega (arith, room.published, c.end_phase.ensures.same_next, ap (λ b. b.count) c.end_phase.ensures.same_state);
@@ -200,11 +202,11 @@ end_phase-requires g c =
     }
 
 pub returns-in-Err-clause-replayed : goal.returns-in-Err-clause-replayed
-returns-in-Err-clause-replayed g c = replay-none _ _ _ _ _ c.requires.none
+returns-in-Err-clause-replayed g c = replay-none Bool _ _ _ _ c.requires.none
 
 pub returns-in-Err-walk_phase-clause-replayed : goal.returns-in-Err-walk_phase-clause-replayed
 returns-in-Err-walk_phase-clause-replayed g c =
-    let inv = c.phases.invariant in replay-wants _ _ _ _ _ _ _ _ inv.replays
+    let inv = c.phases.invariant in replay-wants Bool _ _ _ _ _ _ _ inv.replays
 
 pub returns-in-Err-end_phase-clause-replayed : goal.returns-in-Err-end_phase-clause-replayed
 returns-in-Err-end_phase-clause-replayed g c =
@@ -212,8 +214,9 @@ returns-in-Err-end_phase-clause-replayed g c =
     let library = c.args.performed.now.script.library in
     let ends = c.in-Ok-walk_phase.ensures.ends inv.begun inv.past inv.standings inv.phase inv.stands in
     let phase = closed c.in-Ok-walk_phase.barrier ends.phase in
-    replay-cut _ _ c.walk_phase.new.self.replay c.end_phase.new.run.replay _ (plan c.args.performed.now.script) c.phases.choices c.end_phase.new.choices inv.standings phase (last_counts c.end_phase.new.choices) _ c.in-Err-end_phase.stop
-    (rw c.walk_phase.ensures.same_replay (rw (rw (c.walk_phase.ensures.same, inv.same) at ends.phases) at inv.replays)) c.in-Err-end_phase.ensures.choices (rw (c.walk_phase.ensures.same, inv.same) at (c.in-Err-end_phase.ensures.replays inv.begun inv.past inv.standings ends.phase ends.stands))
+    let lines = drop c.walk_phase.new.self.walk.next c.args.performed.now.script.lines in
+    let replaying = replay-walked c.args.performed.now.trace _ c.walk_phase.new.self.replay library (plan c.args.performed.now.script) c.phases.choices inv.standings _ phase (phases_behind library c.in-Ok-walk_phase.barrier ends.phase lines) c.walk_phase.ensures.same_replay (rw (c.walk_phase.ensures.same, inv.same) at ends.phases) inv.replays in
+    replay-cut Bool c.args.performed.now.trace c.walk_phase.new.self.replay c.end_phase.new.run.replay library (plan c.args.performed.now.script) c.phases.choices c.end_phase.new.choices inv.standings phase (last_counts c.end_phase.new.choices) (phases_behind library c.in-Ok-walk_phase.barrier ends.phase lines) c.in-Err-end_phase.stop replaying c.in-Err-end_phase.ensures.choices (rw (c.walk_phase.ensures.same, inv.same) at (c.in-Err-end_phase.ensures.replays inv.begun inv.past inv.standings ends.phase ends.stands))
     (λ line is. rw (c.walk_phase.ensures.same, inv.same) at (c.in-Err-end_phase.ensures.differs inv.begun inv.past inv.standings ends.phase line ends.stands (ap Err is)))
 
 pub returns-then-is_none-clause-replayed : goal.returns-then-is_none-clause-replayed
@@ -222,6 +225,8 @@ returns-then-is_none-clause-replayed g c =
     let library = c.args.performed.now.script.library in
     let ends = c.in-Ok-walk_phase.ensures.ends inv.begun inv.past inv.standings inv.phase inv.stands in
     let phase = closed c.in-Ok-walk_phase.barrier ends.phase in
-    let last = behind-last library ends.phase c.in-Ok-walk_phase.barrier _ (ap not c.is_none.ensures ∙ ap (λ r. not (not r)) c.if-is_none.true) in
-    replay-ends _ _ _ (plan c.args.performed.now.script) c.end_phase.new.choices _ _ (rw last at (replay-next _ c.walk_phase.new.self.replay c.end_phase.new.run.replay _ (plan c.args.performed.now.script) c.phases.choices c.end_phase.new.choices inv.standings phase (last_counts c.end_phase.new.choices) _ c.in-Ok-end_phase.ensures.choices
-    (rw c.walk_phase.ensures.same_replay (rw (rw (c.walk_phase.ensures.same, inv.same) at ends.phases) at inv.replays)) (rw (c.walk_phase.ensures.same, inv.same) at (c.in-Ok-end_phase.ensures.replays inv.begun inv.past inv.standings ends.phase ends.stands))))
+    let lines = drop c.walk_phase.new.self.walk.next c.args.performed.now.script.lines in
+    let replaying = replay-walked c.args.performed.now.trace _ c.walk_phase.new.self.replay library (plan c.args.performed.now.script) c.phases.choices inv.standings _ phase (phases_behind library c.in-Ok-walk_phase.barrier ends.phase lines) c.walk_phase.ensures.same_replay (rw (c.walk_phase.ensures.same, inv.same) at ends.phases) inv.replays in
+    let next = replay-next c.args.performed.now.trace c.walk_phase.new.self.replay c.end_phase.new.run.replay library (plan c.args.performed.now.script) c.phases.choices c.end_phase.new.choices inv.standings phase (last_counts c.end_phase.new.choices) (phases_behind library c.in-Ok-walk_phase.barrier ends.phase lines) c.in-Ok-end_phase.ensures.choices replaying (rw (c.walk_phase.ensures.same, inv.same) at (c.in-Ok-end_phase.ensures.replays inv.begun inv.past inv.standings ends.phase ends.stands)) in
+    let last = behind-last library ends.phase c.in-Ok-walk_phase.barrier lines (ap not c.is_none.ensures ∙ ap (λ r. not (not r)) c.if-is_none.true) in
+    replay-ends c.args.performed.now.trace c.end_phase.new.run.replay library (plan c.args.performed.now.script) c.end_phase.new.choices _ _ (rw last at next)

@@ -130,8 +130,8 @@ returns-clause-trace_whole g c = λ tells whole script is.
 
 pub returns-in-Err-read_performance-clause-trace_whole : goal.returns-in-Err-read_performance-clause-trace_whole
 returns-in-Err-read_performance-clause-trace_whole g c = λ tells whole script is.
-    holds-early (names_by c.args.words.now) script c.in-Err-read_performance.ending _ c.args.choices.now (c.in-Err-read_performance.ensures.only tells script (rw c.in-Ok.ensures.names at is)) whole
+    holds-early (names_by c.args.words.now) script c.in-Err-read_performance.ending (g.F.Files.told c.read_performance.new.files) c.args.choices.now (c.in-Err-read_performance.ensures.only tells script (rw c.in-Ok.ensures.names at is)) whole
 
 pub returns-in-Err-clause-trace_whole : goal.returns-in-Err-clause-trace_whole
 returns-in-Err-clause-trace_whole g c = λ tells whole script is.
-    holds-early _ script c.in-Err.ending _ c.args.choices.now (words-early _ _ script c.in-Err.ending c.in-Err.ensures.names is) whole
+    holds-early (names_by c.args.words.now) script c.in-Err.ending (g.F.Files.told c.args.files.now) c.args.choices.now (words-early _ _ script c.in-Err.ending c.in-Err.ensures.names is) whole

@@ -36,11 +36,11 @@ pub returns-clause-replayed : goal.returns-clause-replayed
 returns-clause-replayed g c = λ tells ended.
     let over = sym (ap is_end c.ended_so.ensures.status) ∙ ended in
     rw c.ended_so.ensures.choices (replayed-run _ _ (status_of c.tell.result) (line_of c.tell.result) c.run-ending.new.choices Whole
-    (λ script is. decided-told _ c.tell.result c.run-ending.result c.tell.ensures.same (λ decided. c.run-ending.ensures.decided tells decided script is) (end-decided (status_of c.tell.result) over))
-    (λ script is. explained-told _ _ c.tell.result c.run-ending.result c.tell.ensures.same (c.run-ending.ensures.explained tells script is)) over)
+    (λ script is. decided-told script c.tell.result c.run-ending.result c.tell.ensures.same (λ decided. c.run-ending.ensures.decided tells decided script is) (end-decided (status_of c.tell.result) over))
+    (λ script is. explained-told script c.run-ending.new.choices c.tell.result c.run-ending.result c.tell.ensures.same (c.run-ending.ensures.explained tells script is)) over)
 
 pub returns-clause-differs : goal.returns-clause-differs
 returns-clause-differs g c = λ tells six.
     let is_six = sym c.ended_so.ensures.status ∙ six in
     replayed-differs _ _ (line_of c.tell.result) (λ script is.
-    rw is_six at (decided-told _ c.tell.result c.run-ending.result c.tell.ensures.same (λ decided. c.run-ending.ensures.decided tells decided script is) (rw is_six refl)))
+    rw is_six at (decided-told script c.tell.result c.run-ending.result c.tell.ensures.same (λ decided. c.run-ending.ensures.decided tells decided script is) (rw is_six refl)))

@@ -5,6 +5,8 @@ use Rattle.xdp_state.specs.Sums.{Past, sums_of}
 use Rattle.xdp_tool.specs.Ran.{AreLegalOf, carried_by, last_counts, standings_by}
 use Rattle.xdp_tool.proofs.Choosing.{last-pushed}
 use Rattle.xdp_tool.proofs.Due.{length-standings}
+use Rattle.xdp_tool.proofs.Ends.{end-known}
+use Rattle.xdp_tool.specs.declared.counts.CarryEnd.TheVariants.{Differs}
 use Rattle.xdp_tool.proofs.run.Run.close.Goals as goal
 
 pub returns-clause-closes : goal.returns-clause-closes
@@ -74,4 +76,4 @@ pub returns-in-Err-clause-differs : goal.returns-in-Err-clause-differs
 returns-in-Err-clause-differs c = λ begun past standings phase line stands is.
     let at = stands.walks.at in
     let count = ap (λ b. b.count) stands.walks.state ∙ count_after phase.work.published at.taken in
-    rw c.len-number.ensures at (c.in-Err.ensures.differs begun standings phase line at stands.walks.carrier (stands.walks.standing ∙ sym at.processors) (c.count.ensures ∙ count) is)
+    rw c.len-number.ensures at (c.in-Err.ensures.differs begun standings phase line at stands.walks.carrier (stands.walks.standing ∙ sym at.processors) (c.count.ensures ∙ count) (end-known c.in-Err.stop (Differs line) is))
