@@ -7,14 +7,14 @@ use std::test::Fail;
 use xio::{Action, Failed, MemorySource, Source};
 
 /// A little endian section header.
-pub(crate) const SECTION: &[u8] =
+const SECTION: &[u8] =
     b"\x0a\x0d\x0d\x0a\x1c\0\0\0\x4d\x3c\x2b\x1a\x01\0\0\0\xff\xff\xff\xff\xff\xff\xff\xff\x1c\0\0\0";
 
 /// An Ethernet interface without a limit and without options.
 const INTERFACE: &[u8] = b"\x01\0\0\0\x14\0\0\0\x01\0\0\0\0\0\0\0\x14\0\0\0";
 
 /// The interface `eth0:a()@entry` with a snap length of 262,144, in nanoseconds.
-pub(crate) const NAMED: &[u8] =
+const NAMED: &[u8] =
     b"\x01\0\0\0\x34\0\0\0\x01\0\0\0\0\0\x04\0\x02\0\x0e\0eth0:a()@entry\0\0\x09\0\x01\0\x09\0\0\0\0\0\0\0\x34\0\0\0";
 
 /// A frame of 14 bytes on interface 0 at time 0.
@@ -32,11 +32,11 @@ const OTHER: &[u8] = b"\x05\0\0\0\x0c\0\0\0\x0c\0\0\0";
 const OTHER_BIG: &[u8] = b"\0\0\0\x05\0\0\0\x0c\0\0\0\x0c";
 
 /// The frame as it enters the first program on interface 0, 4 milliseconds after the start.
-pub(crate) const ENTRY: &[u8] =
+const ENTRY: &[u8] =
     b"\x06\0\0\0\x5c\0\0\0\0\0\0\0\0\0\0\0\0\x09\x3d\0\x0e\0\0\0\x0e\0\0\0\x02\0\0\0\0\x01\x02\0\0\0\0\x02\x88\xb5\0\0\x01\0\x0d\0publication=2\0\0\0\x05\0\x08\0\0\0\0\0\0\0\0\0\x06\0\x04\0\0\0\0\0\0\0\0\0\x5c\0\0\0";
 
 /// Thirteen of sixty bytes as they leave a program, with XDP_PASS.
-pub(crate) const EXIT: &[u8] =
+const EXIT: &[u8] =
     b"\x06\0\0\0\x70\0\0\0\x01\0\0\0\x01\0\0\0\x02\0\0\0\x0d\0\0\0\x3c\0\0\0\x02\0\0\0\0\x01\x02\0\0\0\0\x02\x88\0\0\0\x01\0\x13\0publication=1000000\0\x05\0\x08\0\x08\x07\x06\x05\x04\x03\x02\x01\x06\0\x04\0\x03\0\0\0\x07\0\x09\0\x02\x02\0\0\0\0\0\0\0\0\0\0\0\0\0\0\x70\0\0\0";
 
 /// The section header, the interface and the frame at 7 microseconds, all big endian.
@@ -46,7 +46,7 @@ const BIG: &[u8] =
 /// How many packets were read, the sum of their times and lengths, and how it ended.
 type Seen = (u32, u64, usize, Option<BlockEnd>);
 
-pub(crate) fn joined(alloc: Global, blocks: &[&[u8]]) -> Result<Bytes, OutOfMemory> {
+fn joined(alloc: Global, blocks: &[&[u8]]) -> Result<Bytes, OutOfMemory> {
     let mut bytes = Bytes::new(alloc);
     for block in blocks {
         bytes.append(block)?;

@@ -8,7 +8,7 @@ use Rattle.dump_capture.specs.declared.put_end.PutEnd.TheVariants.{WriteFault, O
 use Rattle.dump_capture.specs.Capture.{HasPutCause, Puts, StopsBetween, WritesBehind, blocks_at, blocks_of, interface_block, keys_after, keys_at, number_of, packet_block}
 use Rattle.dump_capture.specs.Key.{key_of}
 use Rattle.dump_capture.specs.declared.key.Key.{Key}
-use Rattle.dump_capture.specs.Point.{Point}
+use Rattle.dump_capture.specs.declared.point.Point.{Point}
 use Rattle.xio.specs.Causes.{Rose}
 
 -- a fault in the first block

@@ -3,7 +3,7 @@ use Rattle.std.specs.Prelude.{◌≡◌, ◌≢◌, ℕ, ◌-◌, ◌<◌, ◌�
 use Rattle.xio.specs.Causes.{Rose}
 use Rattle.pcapng_text.specs.Written.{interface_bytes, packet_bytes, section_bytes}
 use Rattle.dump_capture.specs.declared.key.Key.{Key}
-use Rattle.dump_capture.specs.Point.{Point}
+use Rattle.dump_capture.specs.declared.point.Point.{Point}
 use Rattle.dump_capture.specs.declared.put_end.PutEnd.{PutEnd}
 use Rattle.dump_capture.specs.declared.put_end.PutEnd.TheVariants.{WriteFault, OutOfMemory}
 use Rattle.dump_capture.specs.Key.{if_name, is_key_of, key_of}
@@ -34,11 +34,6 @@ keys_at keys point None = keys ++ key_of point ∷ []
 unfoldable pub keys_after : List Key → Point → List Key
 keys_after keys point = keys_at keys point (number_of keys point)
 
--- and behind those of several points
-abbrev pub keys_behind : List Key → List Point → List Key
-keys_behind keys [] = keys
-keys_behind keys (point ∷ points) = keys_behind (keys_after keys point) points
-
 abbrev pub text_behind : List Key → List Point → List ℕ
 text_behind keys [] = []
 text_behind keys (point ∷ points) = blocks_of keys point ++ text_behind (keys_after keys point) points
@@ -46,18 +41,6 @@ text_behind keys (point ∷ points) = blocks_of keys point ++ text_behind (keys_
 -- a whole capture
 abbrev pub capture_text : List Point → List ℕ
 capture_text points = section_bytes ++ text_behind [] points
-
--- the interface blocks of a capture
-pub record Keys : Type 0 where
-  -- those that are written, by number
-  pub written : List Key
-  -- the same, and behind them those that memory is taken for, as they will be written
-  pub known : List Key
-
--- for these points, in this order, no memory is wanted
-pub record AreReserved (capture : Keys) (points : List Point) : Type 0 where
-  pub more : List Key
-  pub front : capture.known ≡ keys_behind capture.written points ++ more
 
 -- `Ok` put all of the blocks behind what was held, a fault the first `written` bytes of them, and want of memory nothing
 abbrev pub Puts : List ℕ → List ℕ → Result Unit PutEnd → List ℕ → Type 0

@@ -3,7 +3,7 @@ use Rattle.std.specs.Prelude.{ℕ, Bool, true, false, ◌==◌, ◌&&◌, List, 
 use Rattle.std.specs.Bool.{beq}
 use Rattle.std.specs.Str.{bytes_eq}
 use Rattle.dump_capture.specs.declared.key.Key.{Key}
-use Rattle.dump_capture.specs.Point.{Point}
+use Rattle.dump_capture.specs.declared.point.Point.{Point}
 
 abbrev pub key_of : Point → Key
 key_of point = record { interface = point.interface; name = point.name; exit = point.exit; snap = point.snap }

@@ -1,3 +1,2 @@
-pub mod Point
 pub mod Key
 pub mod Capture

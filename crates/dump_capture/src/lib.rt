@@ -1,7 +1,6 @@
 //! The capture that is written while programs run: each packet as it enters and leaves them.
 #![tactic(auto)]
 
-mod blocks;
 mod capture;
 mod key;
 mod point;

@@ -1,11 +1,12 @@
+use lists::Bytes;
 use pcapng_text::PacketOptions;
 
 /// A packet at one program: as it enters, or as it leaves.
-#[derive(Clone, Copy, Debug)]
-pub struct Point<'a> {
-    pub interface: &'a [u8],
+#[derive(Debug, Drop)]
+pub struct Point {
+    pub interface: Bytes,
     /// The program's name.
-    pub name: &'a [u8],
+    pub name: Bytes,
     /// Whether the packet leaves.
     pub exit: bool,
     /// The most bytes that are kept of a packet.
@@ -14,6 +15,6 @@ pub struct Point<'a> {
     pub timestamp: u64,
     /// The packet's length here, of which not all bytes may be kept.
     pub length: u32,
-    pub kept: &'a [u8],
+    pub kept: Bytes,
     pub options: PacketOptions,
 }

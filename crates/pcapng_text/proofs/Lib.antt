@@ -5,7 +5,4 @@ pub mod Steps
 pub mod Walk
 pub mod Next
 pub mod Lengths
-pub mod Frames
-pub mod Printed
-pub mod Joins
 pub mod ReadBack

@@ -25,7 +25,7 @@ use Rattle.pcapng_text.specs.declared.packet_block.Claim.{Claim}
 use Rattle.pcapng_text.specs.Reading.{Skips, Gives, TakesUpTo, at_start, block_step, capture_of, has_ended, head_of, reading, start_break, step, step_to}
 use Rattle.pcapng_text.specs.ReadBack.{IsPacketOf, ReadsAsInterface, ReadsAsPacket, ReadsAsSection, StandsIn, behind_interface, behind_packet, behind_section}
 use Rattle.pcapng_text.specs.Written.{block_bytes, block_size, end_of_options, interface_bytes, interface_fields, interface_options, option_bytes, packet_bytes, packet_fields, packet_options, packet_size, padding, section_bytes, section_fields, u32_bytes, u64_bytes, verdict_option}
-use Rattle.pcapng_text.proofs.Lengths.{length-block, length-interface_options, length-option, padded-even, padded-le}
+use Rattle.pcapng_text.proofs.Lengths.{length-block, length-option, padded-even, padded-le}
 use Rattle.pcapng_text.proofs.OptionsIn.{options_in_more}
 use Rattle.pcapng_text.proofs.Steps.{step-block}
 use Rattle.pcapng_text.proofs.Walk.{reading-gives, reading-skips}
@@ -123,8 +123,13 @@ module _ (name : List ℕ) (name_fits : length name < 2 ^ 16) where
   unfolding has_option option_code option_length option_size padded u16_at option_bytes padding
   behind_is = refl
 
+  behind_length : length (option_bytes 9 (9 ∷ []) ++ end_of_options) ≡ 12
+  unfolding option_bytes padding padded
+  behind_length = refl
+
   length-options : length (interface_options name) ≡ 16 + padded (length name)
-  length-options = length-interface_options name
+  length-options =
+      rw options_is (omega (arith, length-append (option_bytes 2 name) (option_bytes 9 (9 ∷ []) ++ end_of_options), length-option 2 name, behind_length))
 
   stands : has_option Little (interface_options name) ≡ true
   unfolding has_option

@@ -8,5 +8,4 @@ pub mod Section
 pub mod Buffer
 pub mod Reading
 pub mod Written
-pub mod Pieces
 pub mod ReadBack

@@ -1,5 +1,5 @@
 -- Packet blocks, enhanced and simple: pcapng, sections 4.3 and 4.4. A block is given whole.
-use Rattle.std.specs.Prelude.{ℕ, ◌+◌, ◌-◌, ◌*◌, ◌/◌, ◌^◌, ◌≤◌, Bool, ◌==◌, ◌&&◌, not, nat_lt, nat_le, min, is_none, List, [], ◌∷◌, length, slice_get, slice_range, Option, Some, None, if◌then◌else◌}
+use Rattle.std.specs.Prelude.{ℕ, ◌+◌, ◌-◌, ◌*◌, ◌/◌, ◌^◌, Bool, ◌==◌, ◌&&◌, not, nat_lt, nat_le, min, is_none, List, [], ◌∷◌, length, slice_get, slice_range, Option, Some, None, if◌then◌else◌}
 use Rattle.pcapng_text.specs.declared.endian.Endian.{Endian}
 use Rattle.pcapng_text.specs.declared.interface_block.Interface.{Interface}
 use Rattle.pcapng_text.specs.declared.packet_block.Claim.{Claim}
@@ -43,11 +43,6 @@ time_of interfaces claim = time_on (slice_get interfaces claim.interface) claim.
 
 unfoldable pub frame_of : List ℕ → Claim → List ℕ
 frame_of block claim = slice_range block claim.start (claim.start + claim.captured)
-
--- the bytes of a packet that is taken
-pub record IsFrame (frame : List ℕ) : Type 0 where
-  pub some : 14 ≤ length frame
-  pub bounded : length frame ≤ 15872
 
 -- behind what a block says of its packet stand the data, padded to 32 bits, then options and the second length
 unfoldable pub packet_rules : List Interface → List ℕ → Claim → List (Bool × Rule)

@@ -20,7 +20,6 @@ use Rattle.pcapng_text.specs.declared.stop.Stop.{Stop}
 use Rattle.pcapng_text.specs.declared.stop.Stop.TheVariants as stop
 use Rattle.pcapng_text.specs.Rule.{first_broken}
 use Rattle.pcapng_text.specs.Start.{order_of, size_of, start_rules}
-use Rattle.pcapng_text.specs.Packet.{IsFrame}
 use Rattle.pcapng_text.specs.Section.{Outcome, Breaks, Passes, Brings, block_outcome}
 use Rattle.pcapng_text.specs.Buffer.{TakesFront}
 
@@ -198,11 +197,6 @@ abbrev pub IsFurther : Progress → Progress → Advance → Type 0
 IsFurther old new advance.End = Unit {0}
 IsFurther old new advance.Skipped = old.place < new.place
 IsFurther old new (advance.Packet _) = old.place < new.place
-
-abbrev pub BringsFrame : Advance → Type 0
-BringsFrame advance.End = Unit {0}
-BringsFrame advance.Skipped = Unit {0}
-BringsFrame (advance.Packet packet) = IsFrame packet.frame
 
 -- an answer is that of a block's first bytes; no start is answered at a fault
 abbrev pub Starts : ℕ → Progress → List ℕ → Result Start BlockEnd → Type 0

@@ -1,6 +1,5 @@
 -- The bytes of blocks that are written, with every number little endian: pcapng, sections 3.1, 3.5 and 4.1 to 4.3.
 use Rattle.std.specs.Prelude.{ℕ, ◌+◌, ◌-◌, ◌/◌, ◌%◌, ◌^◌, List, [], ◌∷◌, ◌++◌, length, take, replicate, codes, Option, Some, None}
-use Rattle.std.specs.Borrow.{Bor}
 use Rattle.std.specs.Fmt.{decimal}
 use Rattle.byteorder.specs.Endian.{little_bytes}
 use Rattle.xio.specs.Action.{number}
@@ -59,12 +58,6 @@ interface_options name = option_bytes 2 name ++ option_bytes 9 (9 ∷ []) ++ end
 
 unfoldable pub interface_bytes : List ℕ → ℕ → List ℕ
 interface_bytes name snap = block_bytes 1 (interface_fields snap) [] (interface_options name)
-
--- a name that is given in parts
-abbrev pub joined : List (Bor (List ℕ)) → List ℕ
-joined [] = []
-joined (part ∷ []) = part.now
-joined (part ∷ more) = part.now ++ joined more
 
 -- a packet of an interface: its time in two halves, how many bytes are kept, and the length of the whole packet
 abbrev pub fields_of : ℕ → ℕ → ℕ → ℕ → ℕ → List ℕ

@@ -1,7 +1,6 @@
 ghost use Rattle.std.specs.Prelude.{◌≡◌, ◌+◌, ◌%◌, ◌^◌, ◌<◌, ◌≤◌, length, [], IsTrue, is_ok, IfOk, OnOk, IfSome, OnSome, Ok, Err, None, true};
 ghost use Rattle.pcapng_text.specs.declared.block_end.BlockEnd.TheVariants.{ReadFault};
-ghost use Rattle.pcapng_text.specs.Packet.{IsFrame};
-ghost use Rattle.pcapng_text.specs.Reading.{at_start, block_step, has_ended, BringsFrame, reading, step, Finishes, HasBlockCause, IsFurther, NamesLimit, Reader, Reads, Starts, Steps, StopsBefore, StopsInBlock, TakesUpTo};
+ghost use Rattle.pcapng_text.specs.Reading.{at_start, block_step, has_ended, reading, step, Finishes, HasBlockCause, IsFurther, NamesLimit, Reader, Reads, Starts, Steps, StopsBefore, StopsInBlock, TakesUpTo};
 
 use crate::advance::Advance;
 use crate::block::take_block;
@@ -77,7 +76,6 @@ fn finish_block(
     requires some { 12 ≤ start.size }
     requires even { start.size % 4 ≡ 0 }
     ensures step { Finishes (block_step progress.old start.endian start.size block.now) progress.old.place progress.new result }
-    ensures sized { IfOk result BringsFrame }
     ensures whole { OnOk result (length block.now ≡ start.size) }
     ensures place { OnOk result (progress.new.place ≡ progress.old.place + start.size) }
     ensures within { progress.new.place ≤ progress.old.place + start.size }
@@ -106,7 +104,6 @@ fn next_block<S: Source>(
     ensures step { IsTrue S.tells → Steps (step limit progress.old (S.rest source.old)) progress.new result }
     ensures taken { IsTrue S.tells → OnOk result (TakesUpTo progress.old.place progress.new.place (S.rest source.old) (S.rest source.new)) }
     ensures end { IsTrue S.tells → result ≡ Ok Advance.End → S.rest source.new ≡ [] }
-    ensures sized { IfOk result BringsFrame }
     ensures fault { IsTrue S.tells → result ≡ Err ReadFault → StopsInBlock progress.old (step limit progress.old (S.rest source.old)) (S.rest source.old) (S.rest source.new) }
     ensures further { IfOk result (λ advance. IsFurther progress.old progress.new advance) }
     ensures within { progress.new.place ≤ limit }
@@ -141,7 +138,6 @@ fn next_packet<S: Source>(
     ensures packet { IsTrue S.tells → Reads (reading limit progress.old (S.rest source.old)) (reading limit progress.new (S.rest source.new)) progress.new.place result }
     ensures taken { IsTrue S.tells → OnOk result (TakesUpTo progress.old.place progress.new.place (S.rest source.old) (S.rest source.new)) }
     ensures end { IsTrue S.tells → result ≡ Ok None → S.rest source.new ≡ [] }
-    ensures sized { IfOk result (λ packet. IfSome packet (λ incoming. IsFrame incoming.frame)) }
     ensures fault { IsTrue S.tells → result ≡ Err ReadFault → StopsBefore (reading limit progress.old (S.rest source.old)).packets progress.old (S.rest source.old) (S.rest source.new) }
     ensures further { IfOk result (λ packet. OnSome packet (progress.old.place < progress.new.place)) }
     ensures within { progress.new.place ≤ limit }
@@ -190,7 +186,6 @@ impl Blocks {
         ensures packet { IsTrue S.tells → Reads (reading self.old.limit self.old.progress (S.rest source.old)) (reading self.old.limit self.new.progress (S.rest source.new)) self.new.progress.place result }
         ensures taken { IsTrue S.tells → OnOk result (TakesUpTo self.old.progress.place self.new.progress.place (S.rest source.old) (S.rest source.new)) }
         ensures end { IsTrue S.tells → result ≡ Ok None → S.rest source.new ≡ [] }
-        ensures sized { IfOk result (λ packet. IfSome packet (λ incoming. IsFrame incoming.frame)) }
         ensures fault { IsTrue S.tells → result ≡ Err ReadFault → StopsBefore (reading self.old.limit self.old.progress (S.rest source.old)).packets self.old.progress (S.rest source.old) (S.rest source.new) }
         ensures further { IfOk result (λ packet. OnSome packet (self.old.progress.place < self.new.progress.place)) }
         ensures within { OnOk result (self.new.progress.place ≤ self.new.limit) }

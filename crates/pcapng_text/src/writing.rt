@@ -1,30 +1,21 @@
 //! Blocks of a capture that is written.
 
-ghost use Rattle.std.specs.Prelude.{◌≡◌, ◌+◌, ◌/◌, ◌%◌, ◌<◌, ◌≤◌, ◌^◌, ◌++◌, IfOk, length};
-ghost use Rattle.std.specs.Fmt.{decimal};
+ghost use Rattle.std.specs.Prelude.{◌≡◌, ◌+◌, ◌/◌, ◌%◌, ◌<◌, ◌≤◌, ◌^◌, ◌++◌, IfOk, OnOk, length, string_bytes};
 ghost use Rattle.pcapng_text.specs.Options.{padded};
 ghost use Rattle.pcapng_text.specs.ReadBack.{ReadsAsInterface, ReadsAsPacket, ReadsAsSection};
 ghost use Rattle.pcapng_text.specs.Written as written;
-ghost use Rattle.xio.specs.Printing.{Prints};
 
 use crate::options::padded;
 use crate::packet_options::PacketOptions;
-use crate::piece::{Piece, print_pieces};
 use lists::{Bytes, OutOfMemory};
-use std::alloc::Global;
-use xio::{Action, Printer};
+use std::alloc::{AllocError, Global};
+use xio::Action;
 
 const SECTION_HEADER: u32 = 0x0a0d_0d0a;
-
-const SECTION_SIZE: u32 = 28;
 
 const BYTE_ORDER_MAGIC: u32 = 0x1a2b_3c4d;
 
 const MAJOR_VERSION: u16 = 1;
-
-const MINOR_VERSION: u16 = 0;
-
-const NO_SECTION_LENGTH: u64 = u64::MAX;
 
 const INTERFACE_DESCRIPTION: u32 = 1;
 
@@ -33,8 +24,6 @@ const ENHANCED_PACKET: u32 = 6;
 const ETHERNET: u16 = 1;
 
 const OPT_COMMENT: u16 = 1;
-
-const PUBLICATION: &[u8] = b"publication=";
 
 const IF_NAME: u16 = 2;
 
@@ -54,209 +43,110 @@ const XDP_ACTION: u8 = 2;
 
 const END_OF_OPTIONS: u32 = 0;
 
-/// Prints the section header that a capture begins with.
-#[tactic(auto, unfolding(crate::specs::Written::section_bytes, crate::specs::Written::block_bytes, crate::specs::Written::block_size, crate::specs::Written::padding, crate::specs::Options::padded))]
-pub fn section_print<P: Printer>(printer: &mut P) -> Result<(), P::End>
-    ensures { Prints P.tells P.counts (P.state printer.old) (P.state printer.new) written.section_bytes result }
+/// The zeros that pad so many bytes to 32 bits.
+#[tactic(auto, unfolding(crate::specs::Written::padding))]
+fn padding(size: usize) -> &'static [u8]
+    requires { size < 2 ^ 32 }
+    ensures { result.now ≡ written.padding size }
 {
-    print_pieces(
-        printer,
-        &[
-            Piece::U32(SECTION_HEADER),
-            Piece::U32(SECTION_SIZE),
-            Piece::U32(BYTE_ORDER_MAGIC),
-            Piece::U16(MAJOR_VERSION),
-            Piece::U16(MINOR_VERSION),
-            Piece::U64(NO_SECTION_LENGTH),
-            Piece::U32(SECTION_SIZE),
-        ],
-    )
+    &[0, 0, 0][..padded(size) - size]
 }
 
-/// A length as it is written: modulo 2^32.
-fn low(size: usize) -> u32
-    ensures { result ≡ size % 2 ^ 32 }
+#[tactic(auto, using(crate::proofs::Lengths::lengths), unfolding(crate::specs::Written::option_bytes))]
+fn append_option(options: &mut Bytes, code: u16, value: &[u8]) -> Result<(), OutOfMemory>
+    requires { length value.now < 2 ^ 16 }
+    ensures bytes { OnOk result (options.new ≡ options.old ++ written.option_bytes code value.now) }
+    ensures size { OnOk result (length options.new ≤ length options.old + length value.now + 7) }
 {
-    (size & 0xffff_ffff) as u32
-}
-
-/// And modulo 2^16.
-fn low_half(size: u32) -> u16
-    ensures { result ≡ size % 2 ^ 16 }
-{
-    (size & 0xffff) as u16
-}
-
-/// How many bytes the parts have, modulo 2^32.
-fn joined_size(parts: &[&[u8]]) -> u32
-    ensures { result ≡ length (written.joined parts.now) % 2 ^ 32 }
-{
-    let mut size = 0;
-    for part in parts {
-        size = sum(size, low(part.len()));
-    }
-    size
-}
-
-fn sum(left: u32, right: u32) -> u32
-    ensures { result ≡ (left + right) % 2 ^ 32 }
-{
-    left.wrapping_add(right)
-}
-
-/// Prints parts, one behind the other.
-fn print_parts<P: Printer>(printer: &mut P, parts: &[&[u8]]) -> Result<(), P::End>
-    ensures { Prints P.tells P.counts (P.state printer.old) (P.state printer.new) (written.joined parts.now) result }
-{
-    for part in parts {
-        printer.print(part)?;
-    }
+    options.append(&code.to_le_bytes())?;
+    options.append(&(value.len() as u16).to_le_bytes())?;
+    options.append(value)?;
+    options.append(padding(value.len()))?;
     Ok(())
 }
 
-/// The length of an option whose value has so many bytes.
-fn option_size(value: u32) -> usize
-    ensures { result ≡ 4 + padded value }
+/// A block of fields, data that are padded, and options.
+#[tactic(auto, unfolding(crate::specs::Written::block_bytes, crate::specs::Written::block_size))]
+fn block(
+    alloc: Global,
+    kind: u32,
+    fields: &[u8],
+    content: &[u8],
+    options: &[u8],
+) -> Result<Bytes, OutOfMemory>
+    requires content { length content.now < 2 ^ 32 }
+    requires size { 12 + length fields.now + padded (length content.now) + length options.now < 2 ^ 32 }
+    ensures { IfOk result (λ bytes. bytes ≡ written.block_bytes kind fields.now content.now options.now) }
 {
-    4 + padded(value as usize)
+    let size = (12 + fields.len() + padded(content.len()) + options.len()) as u32;
+    let mut bytes = Bytes::new(alloc);
+    bytes.append(&kind.to_le_bytes())?;
+    bytes.append(&size.to_le_bytes())?;
+    bytes.append(fields)?;
+    bytes.append(content)?;
+    bytes.append(padding(content.len()))?;
+    bytes.append(options)?;
+    bytes.append(&size.to_le_bytes())?;
+    Ok(bytes)
 }
 
-/// Prints the options of an interface. Its name, given in parts, has so many bytes modulo 2^32.
-fn interface_options_print<P: Printer>(
-    printer: &mut P,
-    name: &[&[u8]],
-    name_size: u32,
-) -> Result<(), P::End>
-    requires { name_size ≡ length (written.joined name.now) % 2 ^ 32 }
-    ensures { Prints P.tells P.counts (P.state printer.old) (P.state printer.new) (written.interface_options (written.joined name.now)) result }
+#[tactic(auto, using(crate::proofs::Lengths::lengths), unfolding(crate::specs::Written::section_bytes, crate::specs::Options::padded))]
+fn section_header(alloc: Global) -> Result<Bytes, OutOfMemory>
+    ensures { IfOk result (λ bytes. bytes ≡ written.section_bytes) }
 {
-    print_pieces(
-        printer,
-        &[Piece::U16(IF_NAME), Piece::U16(low_half(name_size))],
-    )?;
-    print_parts(printer, name)?;
-    print_pieces(
-        printer,
-        &[
-            Piece::Padding(name_size),
-            Piece::U16(IF_TSRESOL),
-            Piece::U16(1),
-            Piece::U8(NANOSECONDS),
-            Piece::Padding(1),
-            Piece::U32(END_OF_OPTIONS),
-        ],
+    let mut fields = Bytes::new(alloc);
+    fields.append(&BYTE_ORDER_MAGIC.to_le_bytes())?;
+    fields.append(&MAJOR_VERSION.to_le_bytes())?;
+    fields.append(&0u16.to_le_bytes())?;
+    fields.append(&[0xff; 8])?;
+    block(alloc, SECTION_HEADER, fields.as_slice(), &[], &[])
+}
+
+#[tactic(auto, using(crate::proofs::Lengths::lengths), unfolding(crate::specs::Written::interface_bytes, crate::specs::Options::padded))]
+fn interface_description(alloc: Global, name: &[u8], snap: u32) -> Result<Bytes, OutOfMemory>
+    requires { length name.now < 2 ^ 16 }
+    ensures { IfOk result (λ bytes. bytes ≡ written.interface_bytes name.now snap) }
+{
+    let mut fields = Bytes::new(alloc);
+    fields.append(&ETHERNET.to_le_bytes())?;
+    fields.append(&0u16.to_le_bytes())?;
+    fields.append(&snap.to_le_bytes())?;
+    let mut options = Bytes::new(alloc);
+    append_option(&mut options, IF_NAME, name)?;
+    append_option(&mut options, IF_TSRESOL, &[NANOSECONDS])?;
+    options.append(&END_OF_OPTIONS.to_le_bytes())?;
+    block(
+        alloc,
+        INTERFACE_DESCRIPTION,
+        fields.as_slice(),
+        &[],
+        options.as_slice(),
     )
 }
 
-/// The length of the block of an interface with a name of so many bytes, both modulo 2^32.
-#[tactic(auto, unfolding(crate::specs::Options::padded))]
-fn interface_size(name_size: u32) -> u32
-    ensures { result ≡ (36 + padded name_size) % 2 ^ 32 }
-{
-    low(24 + option_size(name_size) + option_size(1))
-}
-
-/// Prints an Ethernet interface with a name, which is given in parts, and a snap length. Its times are in nanoseconds.
-/// A length that its field can't hold is written modulo the field's range.
-pub fn interface_print<P: Printer>(printer: &mut P, name: &[&[u8]], snap: u32) -> Result<(), P::End>
-    ensures { Prints P.tells P.counts (P.state printer.old) (P.state printer.new) (written.interface_bytes (written.joined name.now) snap) result }
-{
-    let name_size = joined_size(name);
-    let size = interface_size(name_size);
-    print_pieces(
-        printer,
-        &[
-            Piece::U32(INTERFACE_DESCRIPTION),
-            Piece::U32(size),
-            Piece::U16(ETHERNET),
-            Piece::U16(0),
-            Piece::U32(snap),
-        ],
-    )?;
-    interface_options_print(printer, name, name_size)?;
-    printer.print(&size.to_le_bytes())
-}
-
-/// Prints the option of an action, where there is one.
-#[tactic(auto, using(xio::proofs::PrintLemmas::printing), unfolding(crate::specs::Written::option_bytes, crate::specs::Written::padding, crate::specs::Options::padded))]
-fn verdict_print<P: Printer>(printer: &mut P, verdict: Option<Action>) -> Result<(), P::End>
-    ensures { Prints P.tells P.counts (P.state printer.old) (P.state printer.new) (written.verdict_option verdict) result }
+/// The option of an action, where there is one.
+fn append_verdict(
+    alloc: Global,
+    options: &mut Bytes,
+    verdict: Option<Action>,
+) -> Result<(), OutOfMemory>
+    ensures { OnOk result (options.new ≡ options.old ++ written.verdict_option verdict) }
 {
     let Some(action) = verdict else {
         return Ok(());
     };
-    print_pieces(
-        printer,
-        &[
-            Piece::U16(EPB_VERDICT),
-            Piece::U16(9),
-            Piece::U8(XDP_ACTION),
-            Piece::U64(u64::from(action.number())),
-            Piece::Padding(9),
-        ],
-    )
+    let mut value = Bytes::new(alloc);
+    value.push(XDP_ACTION)?;
+    value.append(&u64::from(action.number()).to_le_bytes())?;
+    append_option(options, EPB_VERDICT, value.as_slice())
 }
 
-/// The length of that option.
-#[tactic(auto, using(crate::proofs::Lengths::options))]
-fn verdict_size(verdict: Option<Action>) -> usize
-    ensures { result ≡ length (written.verdict_option verdict) }
+#[tactic(auto, using(crate::proofs::Lengths::lengths))]
+fn comment(alloc: Global, publication: u32) -> Result<String, AllocError>
+    ensures text { IfOk result (λ text. string_bytes text ≡ written.comment publication) }
+    ensures short { IfOk result (λ text. length (string_bytes text) < 2 ^ 16) }
 {
-    match verdict {
-        Some(_) => option_size(9),
-        None => 0,
-    }
-}
-
-/// Prints what is told beside a packet's bytes, with the number of its publication in these digits.
-fn packet_options_print<P: Printer>(
-    printer: &mut P,
-    publication: &[u8],
-    options: &PacketOptions,
-) -> Result<(), P::End>
-    requires digits { publication.now ≡ decimal options.now.publication }
-    requires short { length publication.now ≤ 40 }
-    ensures { Prints P.tells P.counts (P.state printer.old) (P.state printer.new) (written.packet_options options.now) result }
-{
-    let comment_size = (PUBLICATION.len() + publication.len()) as u32;
-    print_pieces(
-        printer,
-        &[
-            Piece::U16(OPT_COMMENT),
-            Piece::U16(low_half(comment_size)),
-            Piece::Raw(PUBLICATION),
-            Piece::Raw(publication),
-            Piece::Padding(comment_size),
-            Piece::U16(EPB_PACKETID),
-            Piece::U16(8),
-            Piece::U64(options.id),
-            Piece::U16(EPB_QUEUE),
-            Piece::U16(4),
-            Piece::U32(options.queue),
-        ],
-    )?;
-    verdict_print(printer, options.verdict)?;
-    printer.print(&END_OF_OPTIONS.to_le_bytes())
-}
-
-/// The length of those options, with so many digits.
-fn packet_options_size(digits: usize, options: &PacketOptions) -> usize
-    requires digits { digits ≡ length (decimal options.now.publication) }
-    requires short { digits ≤ 40 }
-    ensures { result ≡ length (written.packet_options options.now) }
-{
-    let comment_size = (PUBLICATION.len() + digits) as u32;
-    option_size(comment_size) + option_size(8) + option_size(4) + verdict_size(options.verdict) + 4
-}
-
-/// The length of a packet's block modulo 2^32, with so many digits.
-#[tactic(auto, unfolding(crate::specs::Written::packet_size, crate::specs::Options::padded))]
-fn packet_size(kept: u32, digits: usize, options: &PacketOptions) -> u32
-    requires digits { digits ≡ length (decimal options.now.publication) }
-    requires short { digits ≤ 40 }
-    ensures { result ≡ (32 + padded kept + length (written.packet_options options.now)) % 2 ^ 32 }
-{
-    low(32 + padded(kept as usize) + packet_options_size(digits, options))
+    format!(in alloc; "publication={publication}")
 }
 
 /// The upper and the lower half of a number.
@@ -267,53 +157,65 @@ fn halves(number: u64) -> (u32, u32)
     ((number >> 32) as u32, (number & 0xffff_ffff) as u32)
 }
 
-/// Prints a packet up to its options, in a block of this length.
-fn packet_fields_print<P: Printer>(
-    printer: &mut P,
-    size: u32,
-    number: u32,
-    timestamp: u64,
-    original: u32,
-    kept: &[u8],
-) -> Result<(), P::End>
-    ensures { Prints P.tells P.counts (P.state printer.old) (P.state printer.new) (written.u32_bytes 6 ++ written.u32_bytes size ++ written.packet_fields number timestamp (length kept.now) original ++ kept.now ++ written.padding (length kept.now)) result }
+/// What is told beside a packet's bytes.
+#[tactic(auto, unfolding(crate::specs::Written::packet_options))]
+fn packet_options(alloc: Global, told: &PacketOptions) -> Result<Bytes, OutOfMemory>
+    ensures bytes { IfOk result (λ bytes. bytes ≡ written.packet_options told.now) }
+    ensures number { OnOk result (told.now.publication < 2 ^ 32) }
 {
-    let (upper, lower) = halves(timestamp);
-    let kept_size = low(kept.len());
-    print_pieces(
-        printer,
-        &[
-            Piece::U32(ENHANCED_PACKET),
-            Piece::U32(size),
-            Piece::U32(number),
-            Piece::U32(upper),
-            Piece::U32(lower),
-            Piece::U32(kept_size),
-            Piece::U32(original),
-            Piece::Raw(kept),
-            Piece::Padding(kept_size),
-        ],
-    )
+    let comment = comment(alloc, told.publication)?;
+    let mut options = Bytes::new(alloc);
+    append_option(&mut options, OPT_COMMENT, comment.as_bytes())?;
+    append_option(&mut options, EPB_PACKETID, &told.id.to_le_bytes())?;
+    append_option(&mut options, EPB_QUEUE, &told.queue.to_le_bytes())?;
+    append_verdict(alloc, &mut options, told.verdict)?;
+    options.append(&END_OF_OPTIONS.to_le_bytes())?;
+    Ok(options)
 }
 
-/// Prints a packet of the interface of a number, with a time in nanoseconds. `original` is the packet's length, of
-/// which these bytes are kept. A length that its field can't hold is written modulo the field's range.
-pub fn packet_print<P: Printer>(
-    printer: &mut P,
+/// The fields in front of a packet's bytes.
+fn packet_fields(
+    alloc: Global,
+    number: u32,
+    upper: u32,
+    lower: u32,
+    kept: u32,
+    original: u32,
+) -> Result<Bytes, OutOfMemory>
+    ensures { IfOk result (λ fields. fields ≡ written.fields_of number upper lower kept original) }
+{
+    let mut fields = Bytes::new(alloc);
+    fields.append(&number.to_le_bytes())?;
+    fields.append(&upper.to_le_bytes())?;
+    fields.append(&lower.to_le_bytes())?;
+    fields.append(&kept.to_le_bytes())?;
+    fields.append(&original.to_le_bytes())?;
+    Ok(fields)
+}
+
+#[tactic(auto, using(crate::proofs::Lengths::lengths), unfolding(crate::specs::Written::packet_size))]
+fn enhanced_packet(
+    alloc: Global,
     number: u32,
     timestamp: u64,
     original: u32,
     kept: &[u8],
-    options: &PacketOptions,
-) -> Result<(), P::End>
-    ensures { Prints P.tells P.counts (P.state printer.old) (P.state printer.new) (written.packet_bytes number timestamp original kept.now options.now) result }
+    told: &PacketOptions,
+) -> Result<Bytes, OutOfMemory>
+    requires { written.packet_size kept.now told.now < 2 ^ 32 }
+    ensures bytes { IfOk result (λ bytes. bytes ≡ written.packet_bytes number timestamp original kept.now told.now) }
+    ensures number { OnOk result (told.now.publication < 2 ^ 32) }
 {
-    let mut digits = itoa::Buffer::new();
-    let publication = digits.format(options.publication).as_bytes();
-    let size = packet_size(low(kept.len()), publication.len(), options);
-    packet_fields_print(printer, size, number, timestamp, original, kept)?;
-    packet_options_print(printer, publication, options)?;
-    printer.print(&size.to_le_bytes())
+    let (upper, lower) = halves(timestamp);
+    let fields = packet_fields(alloc, number, upper, lower, kept.len() as u32, original)?;
+    let options = packet_options(alloc, told)?;
+    block(
+        alloc,
+        ENHANCED_PACKET,
+        fields.as_slice(),
+        kept,
+        options.as_slice(),
+    )
 }
 
 /// The section header that a capture begins with.
@@ -321,9 +223,7 @@ pub fn section(alloc: Global) -> Result<Bytes, OutOfMemory>
     ensures bytes { IfOk result (λ bytes. bytes ≡ written.section_bytes) }
     ensures read_back { IfOk result ReadsAsSection }
 {
-    let mut block = Bytes::new(alloc);
-    section_print(&mut block)?;
-    Ok(block)
+    section_header(alloc)
 }
 
 /// An Ethernet interface with a name and a snap length, whose times are in nanoseconds.
@@ -332,9 +232,7 @@ pub fn interface(alloc: Global, name: &[u8], snap: u32) -> Result<Bytes, OutOfMe
     ensures bytes { IfOk result (λ bytes. bytes ≡ written.interface_bytes name.now snap) }
     ensures read_back { IfOk result (ReadsAsInterface snap) }
 {
-    let mut block = Bytes::new(alloc);
-    interface_print(&mut block, &[name], snap)?;
-    Ok(block)
+    interface_description(alloc, name, snap)
 }
 
 /// A packet of the interface of a number, with a time in nanoseconds. `original` is the packet's length, of which
@@ -351,8 +249,5 @@ pub fn packet(
     ensures bytes { IfOk result (λ bytes. bytes ≡ written.packet_bytes number timestamp original kept.now options.now) }
     ensures read_back { IfOk result (ReadsAsPacket number timestamp kept.now) }
 {
-    let options = *options;
-    let mut block = Bytes::new(alloc);
-    packet_print(&mut block, number, timestamp, original, kept, &options)?;
-    Ok(block)
+    enhanced_packet(alloc, number, timestamp, original, kept, options)
 }

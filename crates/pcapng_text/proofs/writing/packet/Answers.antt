@@ -1,10 +1,7 @@
-use Rattle.std.proofs.Common.{arith, subst, sym}
-use Rattle.pcapng_text.specs.ReadBack.{ReadsAsPacket}
-use Rattle.pcapng_text.proofs.Printed.{printed_alone}
-use Rattle.pcapng_text.proofs.ReadBack.{packet-read_back}
+use Rattle.std.proofs.Common.{arith}
+use Rattle.pcapng_text.proofs.ReadBack.{packet_of_these}
 use Rattle.pcapng_text.proofs.writing.packet.Goals as goal
 
 pub returns-clause-read_back : goal.returns-clause-read_back
 returns-clause-read_back c =
-    subst (ReadsAsPacket c.args.number c.args.timestamp c.args.kept.now) (sym (printed_alone c.new.ensures c.in_ok-packet_print.ensures))
-    (packet-read_back c.args.number c.args.timestamp c.args.original c.args.kept.now c.args.options.now (omega arith) (omega arith) (omega arith))
+    packet_of_these c.args.number c.args.timestamp c.args.original c.args.kept.now c.args.options.now _ (omega arith) (omega arith) c.enhanced_packet.ensures.number c.enhanced_packet.ensures.bytes

@@ -1,8 +1,7 @@
-use Rattle.std.proofs.Common.{subst, sym}
 use Rattle.pcapng_text.specs.ReadBack.{ReadsAsSection}
-use Rattle.pcapng_text.proofs.Printed.{printed_alone}
-use Rattle.pcapng_text.proofs.ReadBack.{section-read_back}
+use Rattle.pcapng_text.specs.Written.{section_bytes}
+use Rattle.pcapng_text.proofs.ReadBack.{of_these, section-read_back}
 use Rattle.pcapng_text.proofs.writing.section.Goals as goal
 
 pub returns-clause-read_back : goal.returns-clause-read_back
-returns-clause-read_back c = subst ReadsAsSection (sym (printed_alone c.new.ensures c.in_ok-section_print.ensures)) section-read_back
+returns-clause-read_back c = of_these ReadsAsSection section_bytes _ c.section_header.ensures section-read_back
