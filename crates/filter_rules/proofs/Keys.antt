@@ -29,7 +29,7 @@ same_kind_sym Ether Ip4 = refl
 same_kind_sym Ether Ip6 = refl
 same_kind_sym Ether Ether = refl
 
-same_key_sym : (a b : RuleKey) → same_key a b ≡ same_key b a
+pub same_key_sym : (a b : RuleKey) → same_key a b ≡ same_key b a
 same_key_sym a b = grind (arith, nat_tests, same_kind_sym a.kind b.kind)
 
 list_any-edited : {X : Type 0} (has p : X → Bool) (edit : X → X) (new : X) (xs : List X)

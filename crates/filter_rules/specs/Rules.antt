@@ -1,11 +1,16 @@
 -- The rows of the filter, in the order in which they were made.
-use Rattle.std.specs.Prelude.{ℕ, ◌==◌, ◌&&◌, Bool, true, not, bit_and, bit_or, List, [], ◌∷◌, ◌++◌, find, if◌then◌else◌}
+use Rattle.std.specs.Prelude.{ℕ, ◌==◌, ◌&&◌, Bool, true, not, bit_and, bit_or, List, [], ◌∷◌, ◌++◌, map, find, if◌then◌else◌}
 use Rattle.std.specs.Int.{w8, bit_not}
 use Rattle.std.specs.List.{list_any}
 use Rattle.std.specs.Option.{option_map_or}
 use Rattle.filter_rules.specs.Rule.{same_key, answers}
 use Rattle.filter_rules.specs.declared.rule.RuleKey.{RuleKey}
 use Rattle.filter_rules.specs.declared.rule.RuleRow.{RuleRow}
+use Rattle.filter_rules.specs.declared.rule_table.RowValue.{RowValue}
+
+-- the rows of a table
+abbrev pub rows_of : List (RuleKey × RowValue) → List RuleRow
+rows_of rows = map (λ row. record { key = row.0; flags = row.1.flags; number = row.1.number }) rows
 
 abbrev pub has_key : RuleKey → RuleRow → Bool
 has_key key row = same_key row.key key

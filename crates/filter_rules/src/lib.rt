@@ -6,10 +6,12 @@ pub mod flags;
 pub mod laws;
 mod policy;
 mod rule;
+mod rule_table;
 mod rules;
 mod verdict;
 
 pub use policy::Policy;
 pub use rule::{RuleKey, RuleKind, RuleRow};
+pub use rule_table::{RowValue, RuleTable};
 pub use rules::{NoSuchRule, ROWS, Rules, RulesFull};
 pub use verdict::FilterEnd;

@@ -4,7 +4,7 @@ ghost use Rattle.filter_rules.specs.Rule.{all_flags, answers};
 use crate::flags;
 
 /// What a rule's value is.
-#[derive(Clone, Copy, Debug, PartialEq, Eq)]
+#[derive(Clone, Copy, Debug, PartialEq, Eq, Hash)]
 pub enum RuleKind {
     Port,
     Ip4,
@@ -25,7 +25,7 @@ impl RuleKind {
 }
 
 /// A port or an address that rules speak of; an address is the number of its bytes, the first one highest.
-#[derive(Clone, Copy, Debug, PartialEq, Eq)]
+#[derive(Clone, Copy, Debug, PartialEq, Eq, Hash)]
 pub struct RuleKey {
     pub kind: RuleKind,
     pub value: u128,

@@ -1,11 +1,11 @@
 //! The questions of a filter about a frame, and what their answers make of it.
 
-ghost use Rattle.std.specs.Prelude.{◌≡◌, [], ◌∷◌, find};
-ghost use Rattle.filter_rules.specs.Rule.{answers};
+ghost use Rattle.std.specs.Prelude.{◌≡◌, [], ◌∷◌};
 ghost use Rattle.filter_rules.specs.Verdict.{Ask, ethernet_items, net_items, port_items, decided, verdict};
 
 use crate::policy::Policy;
-use crate::rule::{RuleKey, RuleRow};
+use crate::rule::RuleKey;
+use crate::rules::Rules;
 use crate::{features, flags};
 use net_headers::{Headers, Net, Ports};
 use xio::Action;
@@ -38,96 +38,84 @@ impl Question {
 
 /// What a filter of this policy and these features makes of a frame with these headers.
 #[tactic(auto, using(crate::proofs::Verdicts::parts_in_turn))]
-pub fn verdict(rows: &[RuleRow], headers: &Headers, policy: Policy, features: u8) -> FilterEnd
-    ensures { result ≡ verdict rows.now headers.now policy features }
+pub fn verdict(rules: &Rules, headers: &Headers, policy: Policy, features: u8) -> FilterEnd
+    ensures { result ≡ verdict rules.now headers.now policy features }
 {
-    let decided = by_ethernet(rows, headers, policy, features)
-        .or_else(|| by_net(rows, headers.net, policy, features))
-        .or_else(|| by_ports(rows, headers.ports, policy, features));
+    let decided = by_ethernet(rules, headers, policy, features)
+        .or_else(|| by_net(rules, headers.net, policy, features))
+        .or_else(|| by_ports(rules, headers.ports, policy, features));
     decided.unwrap_or(FilterEnd::Miss {
         action: policy.miss(),
     })
 }
 
-fn by_ethernet(
-    rows: &[RuleRow],
-    headers: &Headers,
-    policy: Policy,
-    features: u8,
-) -> Option<FilterEnd>
-    ensures { result ≡ decided rows.now policy (ethernet_items features headers.now) }
+fn by_ethernet(rules: &Rules, headers: &Headers, policy: Policy, features: u8) -> Option<FilterEnd>
+    ensures { result ≡ decided rules.now policy (ethernet_items features headers.now) }
 {
     if features & features::ETHERNET == 0 {
         return None;
     }
     let target = RuleKey::ether(headers.target);
-    by_addresses(rows, policy, target, RuleKey::ether(headers.source))
+    by_addresses(rules, policy, target, RuleKey::ether(headers.source))
 }
 
-fn by_net(rows: &[RuleRow], net: Net, policy: Policy, features: u8) -> Option<FilterEnd>
-    ensures { result ≡ decided rows.now policy (net_items features net) }
+fn by_net(rules: &Rules, net: Net, policy: Policy, features: u8) -> Option<FilterEnd>
+    ensures { result ≡ decided rules.now policy (net_items features net) }
 {
     match net {
         Net::Cut if features & features::IP != 0 => Some(FilterEnd::Cut),
         Net::V4 { source, target } if features & features::IPV4 != 0 => {
-            by_addresses(rows, policy, RuleKey::ip4(target), RuleKey::ip4(source))
+            by_addresses(rules, policy, RuleKey::ip4(target), RuleKey::ip4(source))
         }
         Net::V6 { source, target } if features & features::IPV6 != 0 => {
-            by_addresses(rows, policy, RuleKey::ip6(target), RuleKey::ip6(source))
+            by_addresses(rules, policy, RuleKey::ip6(target), RuleKey::ip6(source))
         }
         _ => None,
     }
 }
 
-fn by_ports(rows: &[RuleRow], ports: Ports, policy: Policy, features: u8) -> Option<FilterEnd>
-    ensures { result ≡ decided rows.now policy (port_items features ports) }
+fn by_ports(rules: &Rules, ports: Ports, policy: Policy, features: u8) -> Option<FilterEnd>
+    ensures { result ≡ decided rules.now policy (port_items features ports) }
 {
     match ports {
         Ports::Cut if features & features::PORTS != 0 => Some(FilterEnd::Cut),
         Ports::Tcp { source, target } if features & features::TCP != 0 => {
             let target = Question::new(RuleKey::port(target), flags::TARGET_TCP);
             let source = Question::new(RuleKey::port(source), flags::SOURCE_TCP);
-            by_pair(rows, policy, target, source)
+            by_pair(rules, policy, target, source)
         }
         Ports::Udp { source, target } if features & features::UDP != 0 => {
             let target = Question::new(RuleKey::port(target), flags::TARGET_UDP);
             let source = Question::new(RuleKey::port(source), flags::SOURCE_UDP);
-            by_pair(rows, policy, target, source)
+            by_pair(rules, policy, target, source)
         }
         _ => None,
     }
 }
 
 fn by_addresses(
-    rows: &[RuleRow],
+    rules: &Rules,
     policy: Policy,
     target: RuleKey,
     source: RuleKey,
 ) -> Option<FilterEnd>
-    ensures { result ≡ decided rows.now policy (Ask target 2 ∷ Ask source 1 ∷ []) }
+    ensures { result ≡ decided rules.now policy (Ask target 2 ∷ Ask source 1 ∷ []) }
 {
     let target = Question::new(target, flags::TARGET);
     let source = Question::new(source, flags::SOURCE);
-    by_pair(rows, policy, target, source)
+    by_pair(rules, policy, target, source)
 }
 
 /// What the row makes of the frame that answers the first of two questions that a row answers.
-fn by_pair(rows: &[RuleRow], policy: Policy, first: Question, second: Question) -> Option<FilterEnd>
-    ensures { result ≡ decided rows.now policy
+fn by_pair(rules: &Rules, policy: Policy, first: Question, second: Question) -> Option<FilterEnd>
+    ensures { result ≡ decided rules.now policy
         (Ask first.key first.flag ∷ Ask second.key second.flag ∷ []) }
 {
-    let row = asked(rows, first).or_else(|| asked(rows, second))?;
+    let rule = rules
+        .answering(first.key, first.flag)
+        .or_else(|| rules.answering(second.key, second.flag))?;
     Some(FilterEnd::Hit {
-        rule: row.number,
+        rule,
         action: policy.hit(),
     })
-}
-
-/// The first row that answers.
-fn asked(rows: &[RuleRow], question: Question) -> Option<RuleRow>
-    ensures { result ≡ find (answers question.key question.flag) rows.now }
-{
-    rows.iter()
-        .copied()
-        .find(|row| row.answers(question.key, question.flag))
 }

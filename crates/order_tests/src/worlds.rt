@@ -11,8 +11,8 @@ use lists::{Bytes, OutOfMemory};
 use std::alloc::Global;
 use std::test::Fail;
 use xdp_state::{
-    Choices, Command, CountList, Interface, InterfaceList, Library, Mode, NeedsList, Packet, Plan,
-    PlanPhase,
+    Choices, Command, CountList, DumpList, Interface, InterfaceList, Library, Mode, NeedsList,
+    Packet, Plan, PlanPhase,
 };
 
 /// By processor, the numbers of its packets.
@@ -307,7 +307,7 @@ fn only_row(tables: &[NeedsList]) -> Option<&[u32]> {
 #[test]
 fn a_world_goes_from_step_to_step(rt: HostRuntime) -> Result<(), Fail> {
     let (interfaces, mut world) = small_world(rt.alloc())?.ok_or("no world")?;
-    let library = Library::new(rt.alloc(), interfaces);
+    let library = Library::new(rt.alloc(), interfaces, DumpList::new(rt.alloc()));
     for (asked, want) in EVENTS {
         let event = event_of(rt.alloc(), *asked)?;
         assert_eq!(rt; step_if_possible(&mut world, &library, &event), Some(*want));

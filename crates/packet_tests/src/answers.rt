@@ -8,7 +8,8 @@ use lists::{Bytes, OutOfMemory};
 use std::alloc::Global;
 use std::test::Fail;
 use xdp_state::{
-    Change, Command, Interface, InterfaceList, Judgement, Kind, Library, Mode, Reason, State, judge,
+    Change, Command, DumpList, Interface, InterfaceList, Judgement, Kind, Library, Mode, Reason,
+    State, judge,
 };
 
 /// A command in a table, with the letter of its interface.
@@ -19,6 +20,8 @@ enum Asked {
     Set(RuleKey, u8),
     Clear(RuleKey, u8),
     Status,
+    Dump(u8, u32),
+    DumpOff(u8),
 }
 
 const PORT: RuleKey = RuleKey {
@@ -51,7 +54,7 @@ fn library(alloc: Global) -> Result<Library, OutOfMemory>
         let name = name(alloc, letter)?;
         list.push(Interface { name, queues: 1 })?;
     }
-    Ok(Library::new(alloc, list))
+    Ok(Library::new(alloc, list, DumpList::new(alloc)))
 }
 
 /// The answer, or none where a rule's flags aren't of its kind.
@@ -79,6 +82,13 @@ fn command(alloc: Global, asked: Asked) -> Result<Command, OutOfMemory> {
         Asked::Set(key, flags) => Ok(rule(key, flags, false)),
         Asked::Clear(key, flags) => Ok(rule(key, flags, true)),
         Asked::Status => Ok(Command::FilterStatus),
+        Asked::Dump(letter, setting) => Ok(Command::DumpStart {
+            interface: name(alloc, letter)?,
+            setting,
+        }),
+        Asked::DumpOff(letter) => Ok(Command::DumpStop {
+            interface: name(alloc, letter)?,
+        }),
     }
 }
 
@@ -138,6 +148,10 @@ fn detach(interface: u32, number: u32, clear_rules: bool) -> Change {
     }
 }
 
+fn dump(interface: u32, setting: u32) -> Change {
+    Change::DumpOn { interface, setting }
+}
+
 /// a's filter asks for TCP, b's for UDP and Ethernet, a rule names the port of TCP senders, and b's filter leaves.
 fn life() -> [Change; 4] {
     [
@@ -149,6 +163,28 @@ fn life() -> [Change; 4] {
         },
         detach(1, 2, false),
     ]
+}
+
+#[test]
+fn answers_by_the_dumps_that_are_on(rt: HostRuntime) -> Result<(), Fail> {
+    let changes = [dump(1, 7), Change::DumpOff { interface: 1 }];
+    let refused = Judgement::Refused;
+    let accepted = Judgement::Accepted;
+    // after how many of the changes, the command, and its answer
+    for (after, asked, want) in [
+        (0, Asked::Dump(b'c', 7), refused(Reason::NoInterface)),
+        (0, Asked::Dump(b'b', 7), accepted(dump(1, 7))),
+        (0, Asked::DumpOff(b'b'), refused(Reason::DumpNotThere)),
+        (1, Asked::Dump(b'b', 3), refused(Reason::DumpThere)),
+        (1, Asked::Dump(b'a', 3), accepted(dump(0, 3))),
+        (1, Asked::DumpOff(b'b'), accepted(changes[1])),
+        (1, Asked::DumpOff(b'c'), refused(Reason::NoInterface)),
+        (2, Asked::DumpOff(b'b'), refused(Reason::DumpNotThere)),
+    ] {
+        let given = answer(rt.alloc(), &changes[..after.min(2)], asked)?;
+        assert_eq!(rt; given, Some(want));
+    }
+    Ok(())
 }
 
 #[test]
@@ -259,6 +295,27 @@ fn absorbs_each_change(rt: HostRuntime) -> Result<(), Fail> {
     ];
     for (change, want) in rows {
         assert_eq!(rt; absorbed(&mut state, change), want);
+    }
+    Ok(())
+}
+
+#[test]
+fn absorbs_the_changes_of_dumps(rt: HostRuntime) -> Result<(), Fail> {
+    let off = |interface| Change::DumpOff { interface };
+    let mut state = State::new(rt.alloc())?;
+    // the change, the setting that is then on for b, and the count
+    for (change, setting, count) in [
+        (dump(1, 7), Some(7), 1),
+        (dump(1, 8), Some(7), 1),
+        (dump(8, 7), Some(7), 1),
+        (dump(0, 9), Some(7), 2),
+        (off(8), Some(7), 2),
+        (off(1), None, 3),
+        (off(1), None, 4),
+        (dump(1, 8), Some(8), 5),
+    ] {
+        state.absorb(&change);
+        assert_eq!(rt; (state.dump(1), state.count()), (setting, count));
     }
     Ok(())
 }

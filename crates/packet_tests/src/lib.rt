@@ -6,11 +6,15 @@ mod answers;
 #[cfg(test)]
 mod changes;
 #[cfg(test)]
+mod counted_key;
+#[cfg(test)]
 mod programs;
 #[cfg(test)]
 mod rules;
 #[cfg(test)]
 mod sums;
+#[cfg(test)]
+mod tables;
 #[cfg(test)]
 mod tallies;
 #[cfg(test)]

@@ -11,8 +11,9 @@ use object_load::{LoadEnd, programs_of};
 use std::alloc::Global;
 use std::test::Fail;
 use xdp_state::{
-    Command, Interface, InterfaceList, Judgement, Library, LoadWords, Loaded, Mode, ObjectRow, Own,
-    Packet, Reason, State, traverse,
+    Change, Command, DumpList, DumpSetting, Interface, InterfaceList, Judgement, KeptFrame,
+    Library, LoadWords, Loaded, Mode, NameList, ObjectRow, Own, Packet, Reason, State, Traversal,
+    traverse,
 };
 use xio::Action;
 
@@ -90,7 +91,7 @@ fn text(alloc: Global, bytes: &[u8]) -> Result<Bytes, OutOfMemory>
     Ok(text)
 }
 
-/// The interface eth0, and objects by their bytes.
+/// The interface eth0, objects by their bytes, and a dump that keeps the first byte on both sides of each member.
 fn library(alloc: Global, objects: &[Bytes]) -> Result<Library, OutOfMemory>
     ensures { IfOk result IsSound }
 {
@@ -99,7 +100,14 @@ fn library(alloc: Global, objects: &[Bytes]) -> Result<Library, OutOfMemory>
         name: text(alloc, b"eth0")?,
         queues: 1,
     })?;
-    let mut library = Library::new(alloc, interfaces);
+    let mut dumps = DumpList::new(alloc);
+    dumps.push(DumpSetting {
+        names: NameList::new(alloc),
+        entry: true,
+        exit: true,
+        snap: 1,
+    })?;
+    let mut library = Library::new(alloc, interfaces, dumps);
     for bytes in objects {
         let name = text(alloc, b"o")?;
         let loaded = loaded(alloc, bytes.as_slice())?;
@@ -240,12 +248,23 @@ fn orders_members_by_their_names(rt: HostRuntime) -> Result<(), Fail> {
     Ok(())
 }
 
-/// The verdict on a packet that goes through one program, the program's cause, and the frame's first byte behind it.
+/// Why the first program ended so, and the first byte that was kept as the packet came to it and as it left.
+fn sides(trip: &Traversal) -> Option<(Cause, u8, u8)> {
+    let visit = trip.visits.as_slice().first()?;
+    Some((visit.cause, first(&visit.entry)?, first(&visit.exit)?))
+}
+
+fn first(kept: &KeptFrame) -> Option<u8> {
+    kept.get()?.kept.as_slice().first().copied()
+}
+
+/// The verdict on a packet that goes through one program, the program's cause, and the frame's first byte before it, behind
+/// it and at the end.
 fn carried(
     alloc: Global,
     code: &[u64],
     mask: Option<u8>,
-) -> Result<Option<(Action, Cause, u8)>, OutOfMemory>
+) -> Result<Option<(Action, Cause, [u8; 3])>, OutOfMemory>
     requires { length code.now ≤ 100 }
 {
     let objects = [object(alloc, b'p', code)?];
@@ -253,6 +272,10 @@ fn carried(
     let mut state = State::new(alloc)?;
     let load = Asked::Load { object: 0, mask };
     let _ = step(alloc, &mut state, &library, load)?;
+    state.absorb(&Change::DumpOn {
+        interface: 0,
+        setting: 0,
+    });
     let mut own = Own::new(alloc, 0, 0, 0)?;
     own.prepare(&state, &library)?;
     let packet = Packet {
@@ -261,15 +284,16 @@ fn carried(
         frame: text(alloc, &FRAME)?,
     };
     traverse(&state, &library, &mut own, &packet);
-    let (Some(visit), Some(first)) = (own.visits().first(), own.frame().first()) else {
+    let trip = own.trip(alloc)?;
+    let (Some((cause, entry, exit)), Some(last)) = (sides(&trip), own.frame().first()) else {
         return Ok(None);
     };
-    Ok(Some((own.verdict(), visit.cause, *first)))
+    Ok(Some((own.verdict(), cause, [entry, exit, *last])))
 }
 
 #[test]
 fn carries_a_packet_through_a_program(rt: HostRuntime) -> Result<(), Fail> {
-    // the code, its mask, the verdict, the cause, and the frame's first byte
+    // the code, its mask, the verdict, the cause, and the frame's first byte behind it
     for (code, mask, verdict, cause, first) in [
         (PASS, None, Action::Pass, Cause::Exit, 2),
         (DROP, None, Action::Drop, Cause::Exit, 2),
@@ -278,7 +302,7 @@ fn carries_a_packet_through_a_program(rt: HostRuntime) -> Result<(), Fail> {
         (WRITES_PAST, Some(1), Action::Pass, Cause::Fault, 255),
     ] {
         let given = carried(rt.alloc(), code, mask)?;
-        assert_eq!(rt; given, Some((verdict, cause, first)));
+        assert_eq!(rt; given, Some((verdict, cause, [2, first, first])));
     }
     Ok(())
 }

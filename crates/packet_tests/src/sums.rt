@@ -20,7 +20,7 @@ fn two_phases(alloc: Global) -> Result<Sums, OutOfMemory> {
 fn one(alloc: Global, handed: u32, verdict: Action) -> Result<CarriedList, OutOfMemory> {
     let mut packets = CarriedList::new(alloc);
     let traversal = Traversal {
-        visits: VisitList::new(alloc),
+        visits: VisitList::with_capacity(alloc, 0)?,
         verdict,
         target: 0,
         frame: Bytes::new(alloc),

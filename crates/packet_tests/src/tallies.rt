@@ -1,15 +1,18 @@
 use bpf_machine::Cause;
 use std::test::Fail;
-use xdp_state::{HitRow, Tally, Visit};
+use xdp_state::{HitRow, KeptFrame, Kind, Tally, Visit};
 use xio::Action;
 
 fn visit(action: Action, rule: Option<u32>) -> Visit {
     Visit {
         number: 1,
+        kind: Kind::Program(0),
         action,
         cause: Cause::Exit,
         target: 0,
         rule,
+        entry: KeptFrame::none(),
+        exit: KeptFrame::none(),
     }
 }
 

@@ -5,6 +5,8 @@ use Rattle.std.proofs.lemmas.Bool.Decides.{nat_tests}
 use Rattle.std.proofs.lemmas.List.Sums.{sum_by-append}
 use Rattle.xdp_state.specs.Answer.{rule_fits}
 use Rattle.xdp_state.specs.declared.command.Command.{Command}
+use Rattle.xdp_state.specs.declared.command.Command.TheVariants as command
+use Rattle.xdp_state.specs.declared.dump.DumpSetting.{DumpSetting}
 use Rattle.xdp_state.specs.declared.interface.Interface.{Interface}
 use Rattle.script_text.specs.Handed.{IsSound, are_printable, has_frame, has_processor, has_flags, asks_frame, asks_processor, asks_flags}
 use Rattle.script_text.specs.Interfaces.{queue_count, has_room}
@@ -18,6 +20,9 @@ use Rattle.script_text.specs.declared.what.What.TheVariants as what
 pub list_all-push : {X : Type 0} (p : X → Bool) (xs : List X) (x : X) → list_all p xs ≡ true → p x ≡ true → list_all p (xs ++ x ∷ []) ≡ true
 list_all-push p [] x all this = rw this refl
 list_all-push p (y ∷ xs) x all this = grind (arith, nat_tests, list_all-push p xs x)
+
+pub one_more : {X : Type 0} (xs : List X) (x : X) → length (xs ++ x ∷ []) ≤ length xs + 1
+one_more xs x = omega (arith, length-append xs (x ∷ []))
 
 -- the rules of a hand-in's place are less than that of its frame
 pub both-least : {A B : Type 0} (rule other : ℕ) (x : Option B) → rule ≤ other → both {A = A} (Err rule) (found other x) ≡ Err rule
@@ -54,10 +59,11 @@ objects-printable objects (Some name) all this = chosen (object_place objects na
     chosen true = list_all-push (λ n. list_all is_printable n) objects name all this
     chosen false = all
 
-sound_added : (script : Script) (objects : List (List ℕ)) (line : Line) → IsSound script → are_printable objects ≡ true → asks_frame line.what ≡ true
-    → asks_processor (queue_count script.interfaces) line.what ≡ true → asks_flags line.what ≡ true
-    → IsSound (record { interfaces = script.interfaces; objects = objects; lines = script.lines ++ line ∷ [] })
-sound_added script objects line sound printable frame processor flags = record {
+sound_added : (script : Script) (objects : List (List ℕ)) (dumps : List DumpSetting) (line : Line) → IsSound script → are_printable objects ≡ true
+    → asks_frame line.what ≡ true → asks_processor (queue_count script.interfaces) line.what ≡ true
+    → asks_flags line.what ≡ true
+    → IsSound (record { interfaces = script.interfaces; objects = objects; dumps = dumps; lines = script.lines ++ line ∷ [] })
+sound_added script objects dumps line sound printable frame processor flags = record {
   frames = list_all-push has_frame script.lines line sound.frames frame;
   processors = list_all-push (has_processor (queue_count script.interfaces)) script.lines line sound.processors processor;
   flags = list_all-push has_flags script.lines line sound.flags flags;
@@ -68,17 +74,35 @@ sound_added script objects line sound printable frame processor flags = record {
 
 pub sound_line : (script : Script) (line : Line) → IsSound script → asks_frame line.what ≡ true
     → asks_processor (queue_count script.interfaces) line.what ≡ true → asks_flags line.what ≡ true
-    → IsSound (record { interfaces = script.interfaces; objects = script.objects; lines = script.lines ++ line ∷ [] })
-sound_line script line sound frame processor flags = sound_added script script.objects line sound sound.objects frame processor flags
+    → IsSound (record { interfaces = script.interfaces; objects = script.objects; dumps = script.dumps; lines = script.lines ++ line ∷ [] })
+sound_line script line sound frame processor flags =
+    sound_added script script.objects script.dumps line sound sound.objects frame processor flags
 
 -- a line that loads the object of a name
 pub sound_load : (script : Script) (name : Option (List ℕ)) (number : ℕ) (command : Command) → IsSound script → IfSome name (λ n. list_all is_printable n ≡ true)
     → rule_fits command ≡ true
-    → IsSound (record { interfaces = script.interfaces; objects = objects_with script.objects name; lines = script.lines ++ record { line = number; what = what.Command command } ∷ [] })
+    → IsSound (record {
+      interfaces = script.interfaces;
+      objects = objects_with script.objects name;
+      dumps = script.dumps;
+      lines = script.lines ++ record { line = number; what = what.Command command } ∷ [];
+    })
 sound_load script name number command sound printable flags =
-    sound_added script (objects_with script.objects name) (record { line = number; what = what.Command command }) sound
+    sound_added script (objects_with script.objects name) script.dumps (record { line = number; what = what.Command command }) sound
     (objects-printable script.objects name sound.objects printable) refl refl flags
 
-pub ruleset handed = (sound_line)
+-- a line that starts a dump
+pub sound_start : (script : Script) (setting : DumpSetting) (number : ℕ) (name : List ℕ) (place : ℕ) → IsSound script
+    → IsSound (record {
+      interfaces = script.interfaces;
+      objects = script.objects;
+      dumps = script.dumps ++ setting ∷ [];
+      lines = script.lines ++ record { line = number; what = what.Command (command.DumpStart name place) } ∷ [];
+    })
+sound_start script setting number name place sound =
+    sound_added script script.objects (script.dumps ++ setting ∷ []) (record { line = number; what = what.Command (command.DumpStart name place) })
+    sound sound.objects refl refl refl
+
+pub ruleset handed = (sound_line, sound_start)
 
 pub ruleset least = (both-least)

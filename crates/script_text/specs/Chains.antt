@@ -2,13 +2,11 @@
 use Rattle.std.specs.Prelude.{ℕ, ◌+◌, List, [], ◌∷◌, ◌++◌, slice_get, codes, Option, Some, None}
 use Rattle.std.specs.Fmt.{decimal}
 use Rattle.std.specs.Option.{option_map_or}
-use Rattle.chain_order.specs.declared.member.Kind.{Kind}
-use Rattle.chain_order.specs.declared.member.Kind.TheVariants.{Program, Filter}
 use Rattle.chain_order.specs.declared.member.Member.{Member}
 use Rattle.script_text.specs.Lists.{mask_text}
 use Rattle.script_text.specs.Vocabulary.{mode_name}
 use Rattle.xdp_state.specs.Book.{Book}
-use Rattle.xdp_state.specs.Library.{filter_name, program_at}
+use Rattle.xdp_state.specs.Dump.{name_of}
 use Rattle.xdp_state.specs.Members.{chain_on, mode_on}
 use Rattle.xdp_state.specs.declared.interface.Interface.{Interface}
 use Rattle.xdp_state.specs.declared.library.Library.{Library}
@@ -19,15 +17,10 @@ abbrev pub mode_text : Option Mode → List ℕ
 mode_text None = codes "-"
 mode_text (Some mode) = mode_name mode
 
--- a program that the library lacks has no name
-abbrev pub kind_name : Library → Kind → List ℕ
-kind_name library (Program program) = option_map_or (λ p. p.name) (program_at library program) []
-kind_name library (Filter policy features) = filter_name
-
 -- a member's priority, name, number, and the actions after which the chain goes on
 unfoldable pub member_line : Library → Member → List ℕ
 member_line library member =
-    (codes "  " ++ (decimal member.priority ++ (codes " " ++ (kind_name library member.kind ++ (codes " #" ++ (decimal member.number ++ codes " "))))))
+    (codes "  " ++ (decimal member.priority ++ (codes " " ++ (name_of library member.kind ++ (codes " #" ++ (decimal member.number ++ codes " "))))))
     ++ (mask_text member.mask ++ codes "\n")
 
 abbrev pub members_text : Library → List Member → List ℕ

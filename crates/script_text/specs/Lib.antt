@@ -1,5 +1,6 @@
 pub mod Addresses
 pub mod Chains
+pub mod Dump
 pub mod Filter
 pub mod Frames
 pub mod Handed

@@ -8,11 +8,13 @@ use Rattle.script_text.specs.Pieces.{listed}
 use Rattle.script_text.specs.Vocabulary.{bit_name, bit_of}
 use Rattle.script_text.specs.Words.{parts_of}
 use Rattle.script_text.specs.declared.vocabulary.BitNames.{BitNames}
-use Rattle.script_text.specs.declared.vocabulary.BitNames.TheVariants.{Features, AddressFlags, PortFlags, Actions}
+use Rattle.script_text.specs.declared.vocabulary.BitNames.TheVariants.{Features, AddressFlags, PortFlags, Actions, Sides}
 use Rattle.script_text.specs.declared.word_lists.Directions.{Directions}
 use Rattle.script_text.specs.declared.word_lists.Directions.TheVariants as direction
 use Rattle.script_text.specs.declared.word_lists.Protocols.{Protocols}
 use Rattle.script_text.specs.declared.word_lists.Protocols.TheVariants as protocol
+use Rattle.script_text.specs.declared.word_lists.Sides as sides
+use Rattle.script_text.specs.declared.word_lists.Sides.TheVariants as side
 
 -- the bits so far and those of the names behind them, no bit twice
 abbrev pub bits_behind : BitNames → ℕ → List (List ℕ) → Option ℕ
@@ -52,6 +54,18 @@ protocols_in bits =
 abbrev pub protocols_of : List ℕ → Option Protocols
 protocols_of list = option_and_then protocols_in (bits_of Features list)
 
+-- entry 1, exit 2
+abbrev pub sides_in : ℕ → Option sides.Sides
+sides_in bits =
+    if bits == 1 then Some side.Entry
+    else if bits == 2 then Some side.Exit
+    else if bits == 3 then Some side.Both
+    else None
+
+-- the lists of `entry` and `exit`
+abbrev pub sides_of : List ℕ → Option sides.Sides
+sides_of list = option_and_then sides_in (bits_of Sides list)
+
 -- a list of actions, as their mask
 abbrev pub actions_of : List ℕ → Option ℕ
 actions_of list = bits_of Actions list
@@ -68,6 +82,7 @@ list_text PortFlags bits =
 list_text Actions bits =
     listed bits 1 (bit_name Actions 1) ++ (listed bits 2 (bit_name Actions 2) ++ (listed bits 4 (bit_name Actions 4)
     ++ (listed bits 8 (bit_name Actions 8) ++ listed bits 16 (bit_name Actions 16))))
+list_text Sides bits = listed bits 1 (bit_name Sides 1) ++ listed bits 2 (bit_name Sides 2)
 
 -- below this number are bits with names alone
 abbrev pub bits_end : BitNames → ℕ
@@ -75,6 +90,7 @@ bits_end Features = 32
 bits_end AddressFlags = 4
 bits_end PortFlags = 16
 bits_end Actions = 32
+bits_end Sides = 4
 
 -- what the flags of a rule's kind are called
 abbrev pub flag_names : RuleKind → BitNames

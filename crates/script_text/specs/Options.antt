@@ -1,7 +1,8 @@
--- The words behind `xdp-loader VERB` and `xdp-filter VERB`: the verb's options, and the words of its own.
-use Rattle.std.specs.Prelude.{ℕ, ◌||◌, Bool, true, false, List, [], ◌∷◌, codes, Option, Some, None, is_some, Result, Ok, Err, if◌then◌else◌}
+-- The words behind `xdp-loader VERB`, `xdp-filter VERB` and `xdpdump VERB`: the verb's options, and the words of its own.
+use Rattle.std.specs.Prelude.{ℕ, ◌==◌, ◌||◌, Bool, true, false, List, [], ◌∷◌, codes, Option, Some, None, is_some, Result, Ok, Err, if◌then◌else◌}
+use Rattle.std.specs.Option.{option_map}
 use Rattle.std.specs.Str.{bytes_eq}
-use Rattle.script_text.specs.Lists.{actions_of, directions_of, protocols_of, features_of}
+use Rattle.script_text.specs.Lists.{actions_of, directions_of, protocols_of, features_of, sides_of}
 use Rattle.script_text.specs.Numbers.{number_within}
 use Rattle.script_text.specs.Vocabulary.{mode_of, policy_of}
 use Rattle.script_text.specs.Readings.{◌>>=◌, found}
@@ -34,6 +35,13 @@ filter_verb_of word =
     else if bytes_eq word (codes "ip") then Some verb.FilterIp
     else if bytes_eq word (codes "ether") then Some verb.FilterEther
     else if bytes_eq word (codes "status") then Some verb.FilterStatus
+    else None
+
+-- the second word of a line of `xdpdump`
+abbrev pub dump_verb_of : List ℕ → Option Verb
+dump_verb_of word =
+    if bytes_eq word (codes "start") then Some verb.DumpStart
+    else if bytes_eq word (codes "stop") then Some verb.DumpStop
     else None
 
 -- the short or the long form of an option
@@ -77,6 +85,13 @@ abbrev pub port_option : List ℕ → Role
 port_option word =
     if is_either (codes "-p") (codes "--proto") word then role.Setting setting.Protocols else address_option word
 
+abbrev pub dump_option : List ℕ → Role
+dump_option word =
+    if is_either (codes "-p") (codes "--program-names") word then role.Label label.Names
+    else if bytes_eq word (codes "--rx-capture") then role.Setting setting.Sides
+    else if is_either (codes "-s") (codes "--snapshot-length") word then role.Setting setting.Snap
+    else role.Unknown
+
 unfoldable pub option_of : Verb → List ℕ → Role
 option_of verb.LoaderLoad word = program_option word
 option_of verb.LoaderUnload word = member_option word
@@ -87,6 +102,8 @@ option_of verb.FilterPort word = port_option word
 option_of verb.FilterIp word = address_option word
 option_of verb.FilterEther word = address_option word
 option_of verb.FilterStatus word = role.Unknown
+option_of verb.DumpStart word = dump_option word
+option_of verb.DumpStop word = role.Unknown
 
 -- what a word is that is no option's value
 unfoldable pub role_of : Verb → List ℕ → Role
@@ -108,6 +125,8 @@ none_given = record {
   priority = None;
   actions = None;
   id = None;
+  sides = None;
+  snap = None;
   keep = false;
   remove = false;
   all = false;
@@ -116,6 +135,10 @@ none_given = record {
 -- a number below 2^32
 abbrev pub number_32 : List ℕ → Option ℕ
 number_32 word = number_within 0 4294967295 word
+
+-- a snapshot length, of which 0 is the greatest
+abbrev pub snap_of : List ℕ → Option ℕ
+snap_of word = option_map (λ snap. if snap == 0 then 262144 else snap) (number_within 0 262144 word)
 
 -- What is given with one option more: its value, or the rule that the word breaks, 4 where it should be a number and 11 where it is none
 -- of the option's choices. An option that stands twice breaks rule 3.
@@ -138,6 +161,10 @@ given_value given setting.Actions value =
     if is_some given.actions then Err 3 else Ok (record given { actions = Some (found 11 (actions_of value)) })
 given_value given setting.Id value =
     if is_some given.id then Err 3 else Ok (record given { id = Some (found 4 (number_32 value)) })
+given_value given setting.Sides value =
+    if is_some given.sides then Err 3 else Ok (record given { sides = Some (found 11 (sides_of value)) })
+given_value given setting.Snap value =
+    if is_some given.snap then Err 3 else Ok (record given { snap = Some (found 4 (snap_of value)) })
 
 unfoldable pub given_switch : Given → Switch → Result Given ℕ
 given_switch given switch.Keep = if given.keep then Err 3 else Ok (record given { keep = true })
@@ -150,9 +177,10 @@ pub record PlainWords : Type 0 where
   pub second : Option (List ℕ)
   pub name : Option (List ℕ)
   pub section : Option (List ℕ)
+  pub names : Option (List ℕ)
 
 abbrev pub no_plain : PlainWords
-no_plain = record { first = None; second = None; name = None; section = None }
+no_plain = record { first = None; second = None; name = None; section = None; names = None }
 
 -- no verb has more than two words of its own
 unfoldable pub with_own : PlainWords → List ℕ → Result PlainWords ℕ
@@ -164,6 +192,7 @@ with_own plain word =
 unfoldable pub with_label : PlainWords → Label → List ℕ → Result PlainWords ℕ
 with_label plain label.Name value = if is_some plain.name then Err 3 else Ok (record plain { name = Some value })
 with_label plain label.Section value = if is_some plain.section then Err 3 else Ok (record plain { section = Some value })
+with_label plain label.Names value = if is_some plain.names then Err 3 else Ok (record plain { names = Some value })
 
 -- the words behind a verb: what the options give, and the words that are kept
 pub record Arranged : Type 0 where

@@ -1,6 +1,6 @@
 -- What a script says. A line is read as what it adds to the script, or as the number of the least rule that it breaks:
 -- 1   a byte is neither printable ASCII nor a tab
--- 2   the first word, or the second behind `xdp-loader` or `xdp-filter`, is none of those below
+-- 2   the first word, or the second behind `xdp-loader`, `xdp-filter` or `xdpdump`, is none of those below
 -- 3   words are missing or too many, or an option is unknown, has no value or stands twice
 -- 4   a number isn't 1 to 20 digits, or is out of its range
 -- 5   an interface name isn't 1 to 15 letters, digits, `.`, `_` and `-`
@@ -9,22 +9,27 @@
 -- 8   there are more than 8 interfaces, or more than 8 queues in all
 -- 9   a hand-in names no declared interface, or no queue of it
 -- 10  a frame isn't pairs of hexadecimal digits, of 14 to 15,872 bytes
--- 11  a choice or a list has a word that is none of its words, an empty word, or a word twice
+-- 11  a choice or a list has a word that is none of its words, an empty word, or a word twice; a list of names has more
+--     than ten, or a name of more than 128 bytes
 -- 12  an address isn't in its form
 -- 13  an unload of `xdp-loader` asks for one member and for all, or for neither
-use Rattle.std.specs.Prelude.{◌≡◌, ℕ, ◌+◌, ◌==◌, ◌||◌, Bool, not, nat_lt, List, [], ◌∷◌, ◌++◌, length, codes, Result, Ok, Err, if◌then◌else◌, ⊤}
+use Rattle.std.specs.Prelude.{◌≡◌, ℕ, ◌+◌, ◌==◌, ◌||◌, Bool, not, nat_lt, List, [], ◌∷◌, ◌++◌, length, codes, Option, Some, None, Result, Ok, Err, if◌then◌else◌, ⊤}
 use Rattle.std.specs.List.{list_all}
 use Rattle.std.specs.Str.{bytes_eq}
 use Rattle.std.specs.Str.Lines.{lines}
 use Rattle.xdp_state.specs.declared.command.Command.{Command}
+use Rattle.xdp_state.specs.declared.command.Command.TheVariants as command
 use Rattle.xdp_state.specs.declared.interface.Interface.{Interface}
+use Rattle.script_text.specs.Dump.{setting_of, stop_of}
 use Rattle.script_text.specs.Filter.{filter_line}
 use Rattle.script_text.specs.Interfaces.{interface_of, packet_of}
 use Rattle.script_text.specs.Loader.{loader_command}
 use Rattle.script_text.specs.Objects.{objects_with}
-use Rattle.script_text.specs.Options.{arranged, loader_verb_of}
+use Rattle.script_text.specs.Options.{Arranged, arranged, dump_verb_of, loader_verb_of}
 use Rattle.script_text.specs.Readings.{◌>>=◌, found}
 use Rattle.script_text.specs.Words.{words_of, is_comment, is_option, is_printable}
+use Rattle.script_text.specs.declared.options.Verb.{Verb}
+use Rattle.script_text.specs.declared.options.Verb.TheVariants as verb
 use Rattle.script_text.specs.declared.script.Script.{Script}
 use Rattle.script_text.specs.declared.script.ScriptEnd.{ScriptEnd}
 use Rattle.script_text.specs.declared.script.ScriptEnd.TheVariants.{BadScript, TooManyLines, OutOfMemory}
@@ -52,6 +57,26 @@ loader_line script number [] = Err 3
 loader_line script number (verb ∷ words) =
     found 2 (loader_verb_of verb) >>= λ verb. arranged verb words >>= λ words. loader_command script.objects verb words >>= λ command.
     with_line (record script { objects = objects_with script.objects words.plain.second }) number (what.Command command)
+
+-- the start of a dump on the interface of a name; each has a setting of its own
+unfoldable pub start_line : Script → ℕ → Arranged → List ℕ → Result Script ℕ
+start_line script number words name =
+    setting_of words.given words.plain name >>= λ setting.
+    with_line (record script { dumps = script.dumps ++ setting ∷ [] }) number
+    (what.Command (command.DumpStart name (length script.dumps)))
+
+abbrev pub dump_command : Script → ℕ → Verb → Arranged → Option (List ℕ) → Option (List ℕ) → Result Script ℕ
+dump_command script number verb.DumpStart words (Some name) None = start_line script number words name
+dump_command script number verb.DumpStop words (Some name) None =
+    stop_of name >>= λ command. with_line script number (what.Command command)
+dump_command script number _ words _ _ = Err 3
+
+-- a line of `xdpdump`
+unfoldable pub dump_line : Script → ℕ → List (List ℕ) → Result Script ℕ
+dump_line script number [] = Err 3
+dump_line script number (verb ∷ words) =
+    found 2 (dump_verb_of verb) >>= λ verb. arranged verb words >>= λ words.
+    dump_command script number verb words words.plain.first words.plain.second
 
 -- `packet NAME QUEUE HEX`
 unfoldable pub packet_line : List Interface → List (List ℕ) → Result What ℕ
@@ -84,6 +109,7 @@ read_words script number printable (command ∷ words) =
     else if not printable then Err 1
     else if bytes_eq command (codes "interface") then interface_line script words
     else if bytes_eq command (codes "xdp-loader") then loader_line script number words
+    else if bytes_eq command (codes "xdpdump") then dump_line script number words
     else what_of script.interfaces command words >>= with_line script number
 
 -- the script with what the line of the number says
@@ -102,7 +128,7 @@ read_lines script number (line ∷ more) =
     at_line number (read_line script number line) >>= λ script. read_lines script (number + 1) more
 
 abbrev pub no_script : Script
-no_script = record { interfaces = []; objects = []; lines = [] }
+no_script = record { interfaces = []; objects = []; dumps = []; lines = [] }
 
 -- The script of some bytes. It has at most 65,536 lines, which end with a line feed that the last may lack; a carriage
 -- return before the line feed is dropped.

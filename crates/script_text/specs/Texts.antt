@@ -4,7 +4,7 @@ use Rattle.std.specs.Fmt.{decimal}
 use Rattle.object_load.specs.declared.refusal.LoadRefusal.{LoadRefusal}
 use Rattle.object_load.specs.declared.refusal.LoadRefusal.TheVariants as refusal
 use Rattle.xdp_state.specs.declared.judgement.Reason.{Reason}
-use Rattle.xdp_state.specs.declared.judgement.Reason.TheVariants.{NoInterface, BadObject, NoSuchProgram, ModeDiffers, ChainFull, NothingLoaded, NoSuchId, FilterThere, FilterNotThere, FeatureMissing, RulesFull, NoSuchRule}
+use Rattle.xdp_state.specs.declared.judgement.Reason.TheVariants.{NoInterface, BadObject, NoSuchProgram, ModeDiffers, ChainFull, NothingLoaded, NoSuchId, FilterThere, FilterNotThere, FeatureMissing, RulesFull, NoSuchRule, DumpThere, DumpNotThere}
 use Rattle.xdp_state.specs.declared.tally.Tally.{Tally}
 use Rattle.xio.specs.declared.action.Action.{Action}
 use Rattle.xio.specs.declared.action.Action.TheVariants.{Aborted, Drop, Pass, Tx, Redirect}
@@ -41,6 +41,8 @@ reason_text FilterNotThere = codes "filter not there"
 reason_text FeatureMissing = codes "feature missing"
 reason_text RulesFull = codes "rules full"
 reason_text NoSuchRule = codes "no such rule"
+reason_text DumpThere = codes "dump there"
+reason_text DumpNotThere = codes "dump not there"
 
 -- a line that ends with a count
 abbrev pub counted : ℕ → List ℕ → ℕ → List ℕ

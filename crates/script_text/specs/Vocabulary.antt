@@ -6,7 +6,7 @@ use Rattle.filter_rules.specs.declared.policy.Policy.TheVariants.{Allow, Deny}
 use Rattle.xdp_state.specs.declared.mode.Mode.{Mode}
 use Rattle.xdp_state.specs.declared.mode.Mode.TheVariants.{Native, Skb}
 use Rattle.script_text.specs.declared.vocabulary.BitNames.{BitNames}
-use Rattle.script_text.specs.declared.vocabulary.BitNames.TheVariants.{Features, AddressFlags, PortFlags, Actions}
+use Rattle.script_text.specs.declared.vocabulary.BitNames.TheVariants.{Features, AddressFlags, PortFlags, Actions, Sides}
 use Rattle.xio.specs.declared.action.Action.{Action}
 use Rattle.xio.specs.declared.action.Action.TheVariants.{Aborted, Drop, Pass, Tx, Redirect}
 
@@ -110,15 +110,27 @@ action_bit_of word =
     else if bytes_eq word (action_bit_name 16) then Some 16
     else None
 
+-- of a program: 1 as a packet enters it, 2 as it leaves
+abbrev pub side_name : ℕ → List ℕ
+side_name bit = if bit == 1 then codes "entry" else codes "exit"
+
+abbrev pub side_of : List ℕ → Option ℕ
+side_of word =
+    if bytes_eq word (side_name 1) then Some 1
+    else if bytes_eq word (side_name 2) then Some 2
+    else None
+
 -- the word of a bit, and the bit of a word
 abbrev pub bit_name : BitNames → ℕ → List ℕ
 bit_name Features bit = feature_name bit
 bit_name AddressFlags bit = address_flag_name bit
 bit_name PortFlags bit = port_flag_name bit
 bit_name Actions bit = action_bit_name bit
+bit_name Sides bit = side_name bit
 
 abbrev pub bit_of : BitNames → List ℕ → Option ℕ
 bit_of Features word = feature_of word
 bit_of AddressFlags word = address_flag_of word
 bit_of PortFlags word = port_flag_of word
 bit_of Actions word = action_bit_of word
+bit_of Sides word = side_of word

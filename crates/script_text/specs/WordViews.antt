@@ -15,6 +15,7 @@ plain_of plain = record {
   second = word_of plain.second;
   name = word_of plain.name;
   section = word_of plain.section;
+  names = word_of plain.names;
 }
 
 abbrev pub arranged_of : Words → Arranged

@@ -14,6 +14,7 @@ pub struct Plain<'a> {
     pub second: Option<&'a [u8]>,
     pub name: Option<&'a [u8]>,
     pub section: Option<&'a [u8]>,
+    pub names: Option<&'a [u8]>,
 }
 
 /// The words behind a verb: what the options give, and the words that are kept.
@@ -53,6 +54,7 @@ fn with_label<'a>(plain: Plain<'a>, label: Label, value: &'a [u8]) -> Result<Pla
     match label {
         Label::Name if plain.name.is_none() => plain.name = Some(value),
         Label::Section if plain.section.is_none() => plain.section = Some(value),
+        Label::Names if plain.names.is_none() => plain.names = Some(value),
         _ => return Err(BAD_FORM),
     }
     Ok(plain)
@@ -157,5 +159,6 @@ fn no_plain<'a>() -> Plain<'a>
         second: None,
         name: None,
         section: None,
+        names: None,
     }
 }

@@ -1,12 +1,12 @@
 ghost use Rattle.std.specs.Prelude.{◌≡◌, ◌<◌, ◌≤◌, length, IfOk};
-ghost use Rattle.script_text.specs.Chains.{chain_text, chains_text, interface_line, interface_text, kind_name, member_line, members_text, mode_text};
+ghost use Rattle.script_text.specs.Chains.{chain_text, chains_text, interface_line, interface_text, member_line, members_text, mode_text};
 ghost use Rattle.xio.specs.Printing.{Prints};
 
 use crate::piece::{Piece, print_line};
 use crate::vocabulary::mode_name;
 use crate::word_lists::mask_print;
 use std::alloc::Global;
-use xdp_state::{Chain, Kind, Library, Member, Mode, State};
+use xdp_state::{Chain, Library, Member, Mode, State};
 use xio::{Bytes, OutOfMemory, Printer};
 
 /// The word of a mode, or `-` where there is no member.
@@ -16,19 +16,6 @@ fn mode_text(mode: Option<Mode>) -> &'static [u8]
     match mode {
         Some(mode) => mode_name(mode),
         None => b"-",
-    }
-}
-
-/// The name of what runs; a program that the library lacks has none.
-fn kind_name(library: &Library, kind: Kind) -> &[u8]
-    ensures { result.now ≡ kind_name library.now kind }
-{
-    match kind {
-        Kind::Program(number) => match library.program(number) {
-            Some(program) => program.name.as_slice(),
-            None => b"",
-        },
-        Kind::Filter { .. } => b"xdp_filter",
     }
 }
 
@@ -47,7 +34,7 @@ fn member_print<P: Printer>(
             Piece::Text(b"  "),
             Piece::Number(u128::from(member.priority)),
             Piece::Text(b" "),
-            Piece::Text(kind_name(library, member.kind)),
+            Piece::Text(library.name_of(member.kind)),
             Piece::Text(b" #"),
             Piece::Number(u128::from(member.number)),
             Piece::Text(b" "),

@@ -3,7 +3,9 @@
 
 mod actions;
 mod arranged;
+mod boxed_command;
 mod chains;
+mod dump;
 mod ethernet;
 mod filter;
 mod frame;
@@ -28,6 +30,7 @@ mod reading;
 mod refusal;
 mod rule;
 mod script;
+mod sides;
 mod table;
 mod text;
 mod trace;
@@ -38,6 +41,7 @@ mod what;
 mod word_lists;
 mod words;
 
+pub use boxed_command::BoxedCommand;
 pub use chains::{chain_print, chain_text, chains_print};
 pub use frame::Frame;
 pub use laws::reads_back;

@@ -1,17 +1,20 @@
 ghost use Rattle.std.specs.Prelude.{◌≡◌};
-ghost use Rattle.script_text.specs.Options.{loader_verb_of, filter_verb_of, is_either, program_option, member_option, filter_option, keep_option, address_option, port_option, option_of, role_of, none_given, number_32, given_value, given_switch};
+ghost use Rattle.script_text.specs.Options.{loader_verb_of, filter_verb_of, dump_verb_of, dump_option, snap_of, is_either, program_option, member_option, filter_option, keep_option, address_option, port_option, option_of, role_of, none_given, number_32, given_value, given_switch};
 
 use crate::numbers::number_within;
 use crate::rule::{BAD_CHOICE, BAD_FORM, BAD_NUMBER, Rule};
 use crate::vocabulary::{mode_of, policy_of};
 use crate::word_lists::{
-    Directions, Protocols, actions_of, directions_of, features_of, protocols_of,
+    Directions, Protocols, Sides, actions_of, directions_of, features_of, protocols_of, sides_of,
 };
 use crate::words::is_option;
 use filter_rules::Policy;
 use xdp_state::Mode;
 
-/// The second word of a line of `xdp-loader` or `xdp-filter`.
+/// The greatest snapshot length.
+pub const WHOLE_SNAP: u32 = 262_144;
+
+/// The second word of a line of `xdp-loader`, `xdp-filter` or `xdpdump`.
 #[derive(Clone, Copy, Debug, PartialEq, Eq)]
 pub enum Verb {
     LoaderLoad,
@@ -23,6 +26,8 @@ pub enum Verb {
     FilterIp,
     FilterEther,
     FilterStatus,
+    DumpStart,
+    DumpStop,
 }
 
 /// An option whose value is the next word.
@@ -36,6 +41,8 @@ pub enum Setting {
     Priority,
     Actions,
     Id,
+    Sides,
+    Snap,
 }
 
 /// An option whose value is the next word, which is kept as it is.
@@ -43,6 +50,7 @@ pub enum Setting {
 pub enum Label {
     Name,
     Section,
+    Names,
 }
 
 /// An option without a value.
@@ -74,6 +82,8 @@ pub struct Given {
     pub priority: Option<Result<u32, Rule>>,
     pub actions: Option<Result<u8, Rule>>,
     pub id: Option<Result<u32, Rule>>,
+    pub sides: Option<Result<Sides, Rule>>,
+    pub snap: Option<Result<u32, Rule>>,
     pub keep: bool,
     pub remove: bool,
     pub all: bool,
@@ -110,6 +120,19 @@ pub fn filter_verb_of(word: &[u8]) -> Option<Verb>
         Some(Verb::FilterEther)
     } else if word == b"status".as_slice() {
         Some(Verb::FilterStatus)
+    } else {
+        None
+    }
+}
+
+/// The verb of the second word of a line of `xdpdump`.
+pub fn dump_verb_of(word: &[u8]) -> Option<Verb>
+    ensures { result ≡ dump_verb_of word.now }
+{
+    if word == b"start".as_slice() {
+        Some(Verb::DumpStart)
+    } else if word == b"stop".as_slice() {
+        Some(Verb::DumpStop)
     } else {
         None
     }
@@ -201,6 +224,21 @@ fn port_option(word: &[u8]) -> Role
     }
 }
 
+/// What an option of a dump's start is.
+fn dump_option(word: &[u8]) -> Role
+    ensures { result ≡ dump_option word.now }
+{
+    if is_either(b"-p", b"--program-names", word) {
+        Role::Label(Label::Names)
+    } else if word == b"--rx-capture".as_slice() {
+        Role::Setting(Setting::Sides)
+    } else if is_either(b"-s", b"--snapshot-length", word) {
+        Role::Setting(Setting::Snap)
+    } else {
+        Role::Unknown
+    }
+}
+
 /// What an option of the verb is.
 #[tactic(auto, unfolding(crate::specs::Options::option_of))]
 fn option_of(verb: Verb, word: &[u8]) -> Role
@@ -213,7 +251,8 @@ fn option_of(verb: Verb, word: &[u8]) -> Role
         Verb::FilterUnload => keep_option(word),
         Verb::FilterPort => port_option(word),
         Verb::FilterIp | Verb::FilterEther => address_option(word),
-        Verb::LoaderStatus | Verb::FilterStatus => Role::Unknown,
+        Verb::DumpStart => dump_option(word),
+        Verb::LoaderStatus | Verb::FilterStatus | Verb::DumpStop => Role::Unknown,
     }
 }
 
@@ -235,6 +274,14 @@ fn number_32(word: &[u8]) -> Option<u32>
     number_within(0, u32::MAX, word)
 }
 
+/// A snapshot length, of which 0 is the greatest.
+fn snap_of(word: &[u8]) -> Option<u32>
+    ensures { result ≡ snap_of word.now }
+{
+    let snap = number_within(0, WHOLE_SNAP, word)?;
+    Some(if snap == 0 { WHOLE_SNAP } else { snap })
+}
+
 impl Given {
     /// Nothing is given.
     pub fn new() -> Self
@@ -249,6 +296,8 @@ impl Given {
             priority: None,
             actions: None,
             id: None,
+            sides: None,
+            snap: None,
             keep: false,
             remove: false,
             all: false,
@@ -285,6 +334,12 @@ impl Given {
             }
             Setting::Id if self.id.is_none() => {
                 given.id = Some(number_32(value).ok_or(BAD_NUMBER));
+            }
+            Setting::Sides if self.sides.is_none() => {
+                given.sides = Some(sides_of(value).ok_or(BAD_CHOICE));
+            }
+            Setting::Snap if self.snap.is_none() => {
+                given.snap = Some(snap_of(value).ok_or(BAD_NUMBER));
             }
             _ => return Err(BAD_FORM),
         }

@@ -44,6 +44,8 @@ fn reason_print<P: Printer>(printer: &mut P, reason: Reason) -> Result<(), P::En
         Reason::FeatureMissing => printer.print(b"feature missing"),
         Reason::RulesFull => printer.print(b"rules full"),
         Reason::NoSuchRule => printer.print(b"no such rule"),
+        Reason::DumpThere => printer.print(b"dump there"),
+        Reason::DumpNotThere => printer.print(b"dump not there"),
     }
 }
 

@@ -6,7 +6,7 @@ pub type Rule = u8;
 /// A byte is neither printable nor a tab.
 pub const BAD_BYTE: Rule = 1;
 
-/// The first word, or the second behind `xdp-loader` or `xdp-filter`, isn't known.
+/// The first word, or the second behind `xdp-loader`, `xdp-filter` or `xdpdump`, isn't known.
 pub const UNKNOWN: Rule = 2;
 
 /// Words are missing or too many, or an option is unknown, has no value or stands twice.
@@ -30,7 +30,8 @@ pub const NO_QUEUE: Rule = 9;
 
 pub const BAD_FRAME: Rule = 10;
 
-/// A choice or a list has a word that is none of its words, or has one twice.
+/// A choice or a list has a word that is none of its words, or has one twice; a list of names has more than ten, or a name
+/// that isn't 1 to 128 bytes.
 pub const BAD_CHOICE: Rule = 11;
 
 pub const BAD_ADDRESS: Rule = 12;

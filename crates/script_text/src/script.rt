@@ -12,17 +12,20 @@ use crate::reading::LineEnd;
 use crate::rule::Rule;
 use crate::what::LineList;
 use std::alloc::Global;
-use xdp_state::InterfaceList;
+use xdp_state::{DumpList, InterfaceList};
 
 /// The most lines of a script.
 const MOST_LINES: u32 = 65_536;
 
-/// A script: the interfaces that it declares, the files of the objects that it loads, and what its other lines ask.
+/// A script: the interfaces that it declares, the files of the objects that it loads, what its dumps ask for, and what its
+/// other lines ask.
 #[derive(Debug, Drop)]
 pub struct Script {
     pub interfaces: InterfaceList,
     /// Each once, in the order of the lines that name them first; commands name them by their places.
     pub objects: NameList,
+    /// One for each start of a dump; commands name them by their places.
+    pub dumps: DumpList,
     pub lines: LineList,
 }
 
@@ -49,6 +52,7 @@ pub fn read_script(alloc: Global, bytes: &[u8]) -> Result<Script, ScriptEnd>
     let mut script = Script {
         interfaces: InterfaceList::new(alloc),
         objects: NameList::new(alloc),
+        dumps: DumpList::new(alloc),
         lines: LineList::new(alloc),
     };
     let mut line = 0;

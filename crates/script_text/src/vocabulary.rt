@@ -1,9 +1,9 @@
 //! The words of choices, in one place for what reads them and what prints them.
 
 ghost use Rattle.std.specs.Prelude.{◌≡◌, Some};
-ghost use Rattle.script_text.specs.Vocabulary.{action_name, action_of, policy_name, policy_of, mode_name, mode_of, feature_name, feature_of, address_flag_name, address_flag_of, port_flag_name, port_flag_of, action_bit_name, action_bit_of, bit_name, bit_of};
+ghost use Rattle.script_text.specs.Vocabulary.{action_name, action_of, policy_name, policy_of, mode_name, mode_of, feature_name, feature_of, address_flag_name, address_flag_of, port_flag_name, port_flag_of, action_bit_name, action_bit_of, side_name, side_of, bit_name, bit_of};
 
-use crate::actions;
+use crate::{actions, sides};
 use filter_rules::{Policy, features, flags};
 use xdp_state::Mode;
 use xio::Action;
@@ -212,6 +212,29 @@ fn action_bit_of(word: &[u8]) -> Option<u8>
     }
 }
 
+/// The word of a side's bit: 1 as a packet enters a program, all others as it leaves.
+fn side_name(bit: u8) -> &'static [u8]
+    ensures { result.now ≡ side_name bit }
+{
+    if bit == sides::ENTRY {
+        b"entry"
+    } else {
+        b"exit"
+    }
+}
+
+fn side_of(word: &[u8]) -> Option<u8>
+    ensures { result ≡ side_of word.now }
+{
+    if word == side_name(sides::ENTRY) {
+        Some(sides::ENTRY)
+    } else if word == side_name(sides::EXIT) {
+        Some(sides::EXIT)
+    } else {
+        None
+    }
+}
+
 /// What bits have names, of which lists are made.
 #[derive(Clone, Copy, Debug, PartialEq, Eq)]
 pub enum BitNames {
@@ -221,6 +244,8 @@ pub enum BitNames {
     AddressFlags,
     PortFlags,
     Actions,
+    /// Of a program: as a packet enters it, and as it leaves.
+    Sides,
 }
 
 /// The word of a bit.
@@ -232,6 +257,7 @@ pub fn bit_name(names: BitNames, bit: u8) -> &'static [u8]
         BitNames::AddressFlags => address_flag_name(bit),
         BitNames::PortFlags => port_flag_name(bit),
         BitNames::Actions => action_bit_name(bit),
+        BitNames::Sides => side_name(bit),
     }
 }
 
@@ -244,5 +270,6 @@ pub fn bit_of(names: BitNames, word: &[u8]) -> Option<u8>
         BitNames::AddressFlags => address_flag_of(word),
         BitNames::PortFlags => port_flag_of(word),
         BitNames::Actions => action_bit_of(word),
+        BitNames::Sides => side_of(word),
     }
 }

@@ -1,11 +1,11 @@
+use crate::boxed_command::BoxedCommand;
 use crate::frame::Frame;
-use xdp_state::Command;
 use xio::List;
 
 /// What a line of the script asks.
 #[derive(Debug, Drop)]
 pub enum What {
-    Command(Command),
+    Command(BoxedCommand),
     /// A packet is handed in to the processor of its queue.
     Packet { processor: u32, frame: Frame },
     Barrier,

@@ -1,15 +1,15 @@
 //! Lists of words with commas between them, in one place for what reads them and what prints them.
 
 ghost use Rattle.std.specs.Prelude.{◌≡◌};
-ghost use Rattle.script_text.specs.Lists.{actions_of, bits_of, directions_in, directions_of, features_of, flag_names, flags_text, list_text, mask_text, protocols_in, protocols_of};
+ghost use Rattle.script_text.specs.Lists.{actions_of, bits_of, directions_in, directions_of, features_of, flag_names, flags_text, list_text, mask_text, protocols_in, protocols_of, sides_in, sides_of};
 ghost use Rattle.script_text.specs.Pieces.{listed, piece_text};
 ghost use Rattle.script_text.specs.Vocabulary.{bit_name};
 ghost use Rattle.xio.specs.Printing.{Prints};
 
-use crate::actions;
 use crate::parts::first_part;
 use crate::piece::{Piece, print_line};
 use crate::vocabulary::{BitNames, bit_name, bit_of};
+use crate::{actions, sides};
 use filter_rules::{RuleKind, features, flags};
 use xio::Printer;
 
@@ -26,6 +26,14 @@ pub enum Directions {
 pub enum Protocols {
     Tcp,
     Udp,
+    Both,
+}
+
+/// On which sides of programs packets are captured.
+#[derive(Clone, Copy, Debug, PartialEq, Eq)]
+pub enum Sides {
+    Entry,
+    Exit,
     Both,
 }
 
@@ -95,6 +103,24 @@ pub fn protocols_of(list: &[u8]) -> Option<Protocols>
     protocols_in(bits_of(BitNames::Features, list)?)
 }
 
+fn sides_in(bits: u8) -> Option<Sides>
+    ensures { result ≡ sides_in bits }
+{
+    match bits {
+        1 => Some(Sides::Entry),
+        2 => Some(Sides::Exit),
+        3 => Some(Sides::Both),
+        _ => None,
+    }
+}
+
+/// The sides of a list of `entry` and `exit`.
+pub fn sides_of(list: &[u8]) -> Option<Sides>
+    ensures { result ≡ sides_of list.now }
+{
+    sides_in(bits_of(BitNames::Sides, list)?)
+}
+
 /// The mask of a list of actions.
 pub fn actions_of(list: &[u8]) -> Option<u8>
     ensures { result ≡ actions_of list.now }
@@ -149,6 +175,13 @@ pub fn list_print<P: Printer>(printer: &mut P, names: BitNames, bits: u8) -> Res
                 listed(names, bits, actions::PASS),
                 listed(names, bits, actions::TX),
                 listed(names, bits, actions::REDIRECT),
+            ],
+        ),
+        BitNames::Sides => print_line(
+            printer,
+            &[
+                listed(names, bits, sides::ENTRY),
+                listed(names, bits, sides::EXIT),
             ],
         ),
     }

@@ -27,6 +27,7 @@ fn good_scripts(rt: HostRuntime) -> Result<(), Fail> {
         ("interface eth0 1\r\nxdp-filter load eth0\r\n", 1),
         ("\txdp-filter  load\teth9 \nbarrier\nxdp-filter status", 3),
         ("xdp-filter load -m skb eth0 -p deny\n", 1),
+        ("xdpdump start -p -x eth9\nxdpdump stop eth9", 2),
     ];
     for (script, lines) in scripts {
         assert_eq!(rt; reading(rt.alloc(), script), Ok(lines), "{script}");
@@ -40,11 +41,23 @@ fn each_rule(rt: HostRuntime) -> Result<(), Fail> {
     let lines = [
         ("barrier\x01 -x", 1),
         ("barrier\r", 1),
+        ("xdpdump stop \x7f", 1),
         ("xdp-dump", 2),
         ("xdp-loader poll eth0 a.o", 2),
         ("xdp-loader port 53", 2),
         ("xdp-filter poll 1 2 3", 2),
+        ("xdpdump status", 2),
         ("xdp-filter", 3),
+        ("xdpdump", 3),
+        ("xdpdump start", 3),
+        ("xdpdump start eth0 eth1", 3),
+        ("xdpdump start eth0 -p a --program-names b", 3),
+        ("xdpdump start eth0 -m skb", 3),
+        ("xdpdump start eth0 --rx-capture", 3),
+        ("xdpdump start eth0 --rx-capture=exit", 3),
+        ("xdpdump start eth0 -s x --snapshot-length 1", 3),
+        ("xdpdump stop", 3),
+        ("xdpdump stop eth0 -s 1", 3),
         ("barrier x", 3),
         ("interface -x 1", 3),
         ("interface eth1", 3),
@@ -73,6 +86,8 @@ fn each_rule(rt: HostRuntime) -> Result<(), Fail> {
         ("xdp-loader load e/h a.o -P 4294967296", 4),
         ("xdp-loader unload eth0 -a --id -1", 4),
         ("interface e/h 9", 4),
+        ("xdpdump start e/h -s 262145 --rx-capture x", 4),
+        ("xdpdump start e/h -s -1", 4),
         ("interface eth1 0", 4),
         ("xdp-filter port 65536 -m x", 4),
         ("xdp-filter port 000000000000000000053", 4),
@@ -85,6 +100,8 @@ fn each_rule(rt: HostRuntime) -> Result<(), Fail> {
         ("xdp-loader unload e/h", 5),
         ("xdp-loader status e/h", 5),
         ("packet e/h 0 x", 5),
+        ("xdpdump start e/h -p a,a --rx-capture x", 5),
+        ("xdpdump stop e/h", 5),
         ("barrier\ninterface eth0 8", 6),
         ("interface eth0 8", 7),
         ("interface eth1 8", 8),
@@ -108,6 +125,14 @@ fn each_rule(rt: HostRuntime) -> Result<(), Fail> {
         ("xdp-filter port 1 -p tcp,ipv4", 11),
         ("xdp-filter port 1 -p all", 11),
         ("xdp-filter ip x -m dst,", 11),
+        ("xdpdump start eth0 --rx-capture entry,entry", 11),
+        ("xdpdump start eth0 --rx-capture out", 11),
+        ("xdpdump start eth0 --rx-capture exit,", 11),
+        ("xdpdump start eth0 -p a,", 11),
+        ("xdpdump start eth0 -p ,a", 11),
+        ("xdpdump start eth0 -p all,all", 11),
+        ("xdpdump start eth0 -p a,b,a", 11),
+        ("xdpdump start eth0 -p a,b,c,d,e,f,g,h,i,j,k", 11),
         ("xdp-filter ether 02:00:00:00:00:1", 12),
         ("xdp-loader unload eth0", 13),
         ("xdp-loader unload eth0 -i 1 -a", 13),
@@ -117,6 +142,18 @@ fn each_rule(rt: HostRuntime) -> Result<(), Fail> {
         let last = if line.starts_with("barrier\n") { 3 } else { 2 };
         assert_eq!(rt; reading(rt.alloc(), &script), Err((last, rule)), "{line}");
     }
+    Ok(())
+}
+
+/// A name of 64 bytes.
+const HALF: &str = "aaaaaaaaaaaaaaaaaaaaaaaaaaaaaaaaaaaaaaaaaaaaaaaaaaaaaaaaaaaaaaaa";
+
+#[test]
+fn long_program_names(rt: HostRuntime) -> Result<(), Fail> {
+    let longest = format!(in rt.alloc(); "interface eth0 1\nxdpdump start eth0 -p b,{HALF}{HALF}")?;
+    assert_eq!(rt; reading(rt.alloc(), &longest), Ok(1));
+    let longer = format!(in rt.alloc(); "interface eth0 1\nxdpdump start eth0 -p b,{HALF}{HALF}a")?;
+    assert_eq!(rt; reading(rt.alloc(), &longer), Err((2, 11)));
     Ok(())
 }
 

@@ -1,7 +1,10 @@
+use crate::options::command_of;
 use script_text::{Script, What, chain_text, read_script};
 use std::alloc::Global;
 use std::test::Fail;
-use xdp_state::{Change, Command, Interface, InterfaceList, Kind, Library, LoadWords, Mode, State};
+use xdp_state::{
+    Change, Command, DumpList, Interface, InterfaceList, Kind, Library, LoadWords, Mode, State,
+};
 use xio::{Bytes, OutOfMemory};
 
 /// What a load on eth0 asks for, of the object with this place.
@@ -92,8 +95,8 @@ fn is_load(words: &LoadWords, load: &Load) -> bool {
 /// Whether the line at this place of the script asks for the load.
 fn has_load(script: &Script, place: usize, load: &Load) -> bool {
     match script.lines.as_slice().get(place) {
-        Some(line) => match &line.what {
-            What::Command(Command::LoaderLoad(words)) => is_load(words, load),
+        Some(line) => match command_of(&line.what) {
+            Some(Command::LoaderLoad(words)) => is_load(words, load),
             _ => false,
         },
         None => false,
@@ -137,8 +140,8 @@ xdp-loader status eth0
 ";
 
 fn is_unload(what: &What, wanted: Option<u32>) -> bool {
-    match what {
-        What::Command(Command::LoaderUnload { interface, id }) => {
+    match command_of(what) {
+        Some(Command::LoaderUnload { interface, id }) => {
             interface.as_slice() == b"eth0".as_slice() && *id == wanted
         }
         _ => false,
@@ -146,8 +149,8 @@ fn is_unload(what: &What, wanted: Option<u32>) -> bool {
 }
 
 fn is_status(what: &What, wanted: Option<&str>) -> bool {
-    match what {
-        What::Command(Command::LoaderStatus { interface }) => is_word(interface, wanted),
+    match command_of(what) {
+        Some(Command::LoaderStatus { interface }) => is_word(interface, wanted),
         _ => false,
     }
 }
@@ -201,7 +204,7 @@ fn library(alloc: Global) -> Result<Library, OutOfMemory> {
         name.append(word)?;
         interfaces.push(Interface { name, queues: 1 })?;
     }
-    Ok(Library::new(alloc, interfaces))
+    Ok(Library::new(alloc, interfaces, DumpList::new(alloc)))
 }
 
 fn is_table(alloc: Global, state: &State, library: &Library, interface: u32, wanted: &str) -> bool {

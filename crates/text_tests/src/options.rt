@@ -2,13 +2,21 @@ use filter_rules::{Policy, RuleKey};
 use script_text::{Script, What, read_script};
 use std::alloc::Global;
 use std::test::Fail;
-use xdp_state::{Command, Mode};
+use xdp_state::{Command, DumpSetting, Mode};
+
+/// The command of a line, where it asks for one.
+pub fn command_of(what: &What) -> Option<&Command> {
+    match what {
+        What::Command(command) => Some(command.get()),
+        _ => None,
+    }
+}
 
 /// The rule of a script of one line: its key, its flags, and whether it is removed.
 fn rule_of(alloc: Global, line: &str) -> Option<(RuleKey, u8, bool)> {
     let script = read_script(alloc, line.as_bytes()).ok()?;
-    match &script.lines.as_slice().first()?.what {
-        What::Command(Command::FilterRule { key, flags, remove }) => Some((*key, *flags, *remove)),
+    match command_of(&script.lines.as_slice().first()?.what) {
+        Some(Command::FilterRule { key, flags, remove }) => Some((*key, *flags, *remove)),
         _ => None,
     }
 }
@@ -68,8 +76,8 @@ fn addresses(rt: HostRuntime) -> Result<(), Fail> {
 /// What a script of one line loads on eth0: mode, policy and features.
 fn load_of(alloc: Global, line: &str) -> Option<(Mode, Policy, u8)> {
     let script = read_script(alloc, line.as_bytes()).ok()?;
-    match &script.lines.as_slice().first()?.what {
-        What::Command(
+    match command_of(&script.lines.as_slice().first()?.what) {
+        Some(
             Command::FilterLoad {
                 interface,
                 mode,
@@ -100,9 +108,114 @@ fn loads(rt: HostRuntime) -> Result<(), Fail> {
     Ok(())
 }
 
+/// How many names a dump on eth0 asks for, at which sides, and the most bytes that it keeps.
+fn dump_of(alloc: Global, line: &str) -> Option<(u32, bool, bool, u32)> {
+    let script = read_script(alloc, line.as_bytes()).ok()?;
+    let [dump] = script.dumps.as_slice() else {
+        return None;
+    };
+    let DumpSetting {
+        names,
+        entry,
+        exit,
+        snap,
+    } = dump;
+    match command_of(&script.lines.as_slice().first()?.what) {
+        Some(
+            Command::DumpStart {
+                interface,
+                setting: 0,
+            },
+        ) if interface.as_slice() == b"eth0".as_slice() => Some((
+            names.len(),
+            *entry,
+            *exit,
+            *snap,
+        )),
+        _ => None,
+    }
+}
+
+#[test]
+fn dumps(rt: HostRuntime) -> Result<(), Fail> {
+    let dumps = [
+        ("", (0, true, false, 262_144)),
+        ("-s 0 -p all", (0, true, false, 262_144)),
+        (
+            "--rx-capture exit --snapshot-length 96",
+            (0, false, true, 96),
+        ),
+        ("-p a,all --rx-capture entry,exit", (2, true, true, 262_144)),
+        (
+            "--program-names a,b,c,d,e,f,g,h,i,j --rx-capture exit,entry -s 262144",
+            (10, true, true, 262_144),
+        ),
+    ];
+    for (options, dump) in dumps {
+        let line = format!(in rt.alloc(); "xdpdump start {options} eth0")?;
+        assert_eq!(rt; dump_of(rt.alloc(), &line), Some(dump), "{line}");
+    }
+    Ok(())
+}
+
+fn is_stop(what: &What) -> bool {
+    match command_of(what) {
+        Some(Command::DumpStop { interface }) => interface.as_slice() == b"eth1".as_slice(),
+        _ => false,
+    }
+}
+
+/// Whether the dump of this setting asks for the program alone.
+fn asks_alone(script: &Script, number: u32, name: &str) -> bool {
+    match script.dumps.as_slice().get(number as usize) {
+        Some(dump) => matches!(
+            dump.names.as_slice(),
+            [only] if only.as_slice() == name.as_bytes()
+        ),
+        None => false,
+    }
+}
+
+/// Whether the start of a dump on eth0 has the setting of this number, which asks for the program.
+fn is_start(script: &Script, what: &What, number: u32, name: &str) -> bool {
+    match command_of(what) {
+        Some(Command::DumpStart { interface, setting }) => {
+            interface.as_slice() == b"eth0".as_slice()
+                && *setting == number
+                && asks_alone(script, number, name)
+        }
+        _ => false,
+    }
+}
+
+const DUMPS: &str = "interface eth0 2
+interface eth1 3
+xdpdump start eth0 -p a
+xdpdump start eth0 -p a
+xdpdump stop eth1
+";
+
+fn are_dumps(script: &Script) -> bool {
+    let [start, again, stop] = script.lines.as_slice() else {
+        return false;
+    };
+    script.dumps.len() == 2
+        && is_start(script, &start.what, 0, "a")
+        && is_start(script, &again.what, 1, "a")
+        && is_stop(&stop.what)
+        && stop.line == 5
+}
+
+#[test]
+fn dump_lines(rt: HostRuntime) -> Result<(), Fail> {
+    let script = read_script(rt.alloc(), DUMPS.as_bytes()).ok().ok_or("bad")?;
+    assert!(rt; are_dumps(&script));
+    Ok(())
+}
+
 fn is_unload(what: &What, keeps: bool) -> bool {
-    match what {
-        What::Command(Command::FilterUnload { interface, keep }) => {
+    match command_of(what) {
+        Some(Command::FilterUnload { interface, keep }) => {
             interface.as_slice() == b"eth0".as_slice() && *keep == keeps
         }
         _ => false,
@@ -141,7 +254,7 @@ fn are_lines(script: &Script) -> bool {
         && is_unload(&short.what, true)
         && is_unload(&long.what, true)
         && matches!(barrier.what, What::Barrier)
-        && matches!(status.what, What::Command(Command::FilterStatus))
+        && matches!(command_of(&status.what), Some(Command::FilterStatus))
         && status.line == 10
 }
 

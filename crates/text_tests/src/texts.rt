@@ -8,7 +8,9 @@ use script_text::{
 };
 use std::alloc::Global;
 use std::test::Fail;
-use xdp_state::{Change, Interface, InterfaceList, Kind, Mode, Reason, State, Tally, Visit};
+use xdp_state::{
+    Change, Interface, InterfaceList, KeptFrame, Kind, Mode, Reason, State, Tally, Visit,
+};
 use xio::{Action, Bytes, OutOfMemory};
 
 fn is_outcome(alloc: Global, outcome: &Outcome, wanted: &str) -> bool {
@@ -44,7 +46,7 @@ fn outcomes(rt: HostRuntime) {
     assert!(rt; is_end(rt.alloc(), 2, "end 2\n"));
 }
 
-const REASONS: [(Reason, &str); 11] = [
+const REASONS: [(Reason, &str); 13] = [
     (Reason::NoInterface, "no such interface"),
     (Reason::NoSuchProgram, "no such program"),
     (Reason::ModeDiffers, "mode differs"),
@@ -56,6 +58,8 @@ const REASONS: [(Reason, &str); 11] = [
     (Reason::FeatureMissing, "feature missing"),
     (Reason::RulesFull, "rules full"),
     (Reason::NoSuchRule, "no such rule"),
+    (Reason::DumpThere, "dump there"),
+    (Reason::DumpNotThere, "dump not there"),
 ];
 
 const REFUSALS: [(LoadRefusal, &str); 9] = [
@@ -231,10 +235,13 @@ fn tally(alloc: Global) -> Result<Tally, OutOfMemory> {
     for (rule, action, handed) in packets {
         let visit = Visit {
             number: 1,
+            kind: Kind::Program(0),
             action,
             cause: Cause::Exit,
             target: 0,
             rule: Some(rule),
+            entry: KeptFrame::none(),
+            exit: KeptFrame::none(),
         };
         tally.add(&[visit], action, handed)?;
     }

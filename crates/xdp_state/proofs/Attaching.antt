@@ -1,6 +1,6 @@
 -- A state before any change, and what its functions make of one hook.
-use Rattle.std.proofs.Common.{◌≡◌, ℕ, zero, suc, ◌+◌, ◌<◌, Bool, true, false, not, cond, ◌&&◌, nat_lt, List, [], ◌∷◌, ◌++◌, length, map, replicate, refl, sym, ap, ◌∙◌, inl, inr, subst, slice_get, slice_set, Some, Result, Ok, Err, OnOk, OnErr, IsErr, ◌↔◌, arith}
-use Rattle.std.specs.Prelude.{◌==◌, filter, count_by, slice_index_or}
+use Rattle.std.proofs.Common.{◌≡◌, ℕ, zero, suc, ◌+◌, ◌<◌, Bool, true, false, not, cond, ◌&&◌, nat_lt, List, [], ◌∷◌, ◌++◌, length, map, replicate, refl, sym, ap, ◌∙◌, inl, inr, subst, slice_get, slice_set, Some, None, Result, Ok, Err, OnOk, OnErr, IsErr, ◌↔◌, arith}
+use Rattle.std.specs.Prelude.{Option, ◌==◌, filter, count_by, slice_index_or}
 use Rattle.std.specs.List.{list_any}
 use Rattle.std.specs.Bool.{then_some}
 use Rattle.std.proofs.lemmas.Bool.{cases_Bool}
@@ -13,7 +13,7 @@ use Rattle.chain_order.specs.declared.member.Kind.{Kind}
 use Rattle.chain_order.specs.declared.member.Member.{Member}
 use Rattle.chain_order.proofs.Chains.{count-cons}
 use Rattle.filter_rules.specs.declared.rule.RuleRow.{RuleRow}
-use Rattle.xdp_state.specs.Book.{Book, empty, has_place}
+use Rattle.xdp_state.specs.Book.{empty, has_place}
 use Rattle.xdp_state.specs.Members.{Attached, chain_on, differs, has_filter, is_filter, members_off, mode_on}
 use Rattle.xdp_state.specs.State.{IsWhole, attached_at, attached_from, in_order, view_of}
 use Rattle.xdp_state.specs.declared.hook.Hook.{Hook}
@@ -59,8 +59,8 @@ whole-new s hooks count =
       count = omega arith;
     }
 
-pub view-new : (hooks : List Hook) (rules : List RuleRow) → hooks ≡ replicate 8 first_hook → rules ≡ [] → record { members = in_order (attached_from 0 hooks) 0; rows = rules; count = 0 } ≡ empty
-view-new hooks rules is none = rw (none, in_order-new hooks is) refl
+pub view-new : (hooks : List Hook) (rules : List RuleRow) (dumps : List (Option ℕ)) → hooks ≡ replicate 8 first_hook → rules ≡ [] → dumps ≡ replicate 8 None → record { members = in_order (attached_from 0 hooks) 0; rows = rules; dumps = dumps; count = 0 } ≡ empty
+view-new hooks rules dumps is none off = rw (none, off, in_order-new hooks is) refl
 
 -- a state of the same hooks
 pub whole-same : (s t : Inside) → IsWhole s → t.hooks.items ≡ s.hooks.items → t.count ≡ s.count → IsWhole t
@@ -108,7 +108,7 @@ pub whole-attach : (s t : Inside) (interface : ℕ) (mode : Mode) (member : Memb
 whole-attach s t interface mode member place hook new a hooks count = whole-joined s t interface mode member place hook new a.joins a.few hooks count a.chain
 
 pub view-attach : (s : Inside) (interface : ℕ) (mode : Mode) (member : Member) (place : ℕ) (hook new : Hook) (hooks : List Hook) → Attach s interface mode member place hook new → hooks ≡ slice_set s.hooks.items interface new
-    → record { members = in_order (attached_from 0 hooks) (s.count + 1); rows = s.rules; count = s.count + 1 } ≡ record (view_of s) { members = (view_of s).members ++ placed interface mode member ∷ []; count = s.count + 1 }
+    → record { members = in_order (attached_from 0 hooks) (s.count + 1); rows = s.rules; dumps = s.dumps; count = s.count + 1 } ≡ record (view_of s) { members = (view_of s).members ++ placed interface mode member ∷ []; count = s.count + 1 }
 view-attach s interface mode member place hook new hooks a is =
     rw (is, in_order-joined s interface mode member place hook new a.joins) refl
 
@@ -162,7 +162,7 @@ pub whole-detach : (s t : Inside) (interface : ℕ) (leaves : Member → Bool) (
 whole-detach s t interface leaves hook new d hooks count = whole-left s t interface leaves hook new d.leave d.few hooks count d.chain
 
 pub view-detach : (s : Inside) (interface : ℕ) (leaves : Member → Bool) (hook new : Hook) (hooks : List Hook) (rows left : List RuleRow) → Detach s interface leaves hook new → hooks ≡ slice_set s.hooks.items interface new → rows ≡ left
-    → record { members = in_order (attached_from 0 hooks) (s.count + 1); rows = rows; count = s.count + 1 } ≡ (let book : Book = record { members = filter (stays interface leaves) (view_of s).members; rows = left; count = s.count + 1 } in book)
+    → record { members = in_order (attached_from 0 hooks) (s.count + 1); rows = rows; dumps = s.dumps; count = s.count + 1 } ≡ record (view_of s) { members = filter (stays interface leaves) (view_of s).members; rows = left; count = s.count + 1 }
 view-detach s interface leaves hook new hooks rows left d is same = rw (is, same, in_order-left s interface leaves hook new d.leave) refl
 
 -- the member of a number, and all members
@@ -185,7 +185,7 @@ pub chain-all : (members chain : List Member) → IsChain members chain → IsCh
 chain-all members chain is = rw (none_stay members) no_chain
 
 pub view-all : (s : Inside) (interface : ℕ) (hook : Hook) (hooks : List Hook) → Detach s interface (λ m. true) hook first_hook → hooks ≡ slice_set s.hooks.items interface first_hook
-    → record { members = in_order (attached_from 0 hooks) (s.count + 1); rows = s.rules; count = s.count + 1 } ≡ record (view_of s) { members = members_off (view_of s).members interface; count = s.count + 1 }
+    → record { members = in_order (attached_from 0 hooks) (s.count + 1); rows = s.rules; dumps = s.dumps; count = s.count + 1 } ≡ record (view_of s) { members = members_off (view_of s).members interface; count = s.count + 1 }
 view-all s interface hook hooks d is =
     view-detach s interface (λ m. true) hook first_hook hooks s.rules s.rules d is refl
     ∙ ap (λ (members : List Attached). record (view_of s) { members = members; count = s.count + 1 }) (members_off-is (view_of s).members interface)

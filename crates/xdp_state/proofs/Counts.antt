@@ -4,7 +4,7 @@ use Rattle.std.specs.List.{fold}
 use Rattle.std.proofs.lemmas.List.Sums.{fold-append}
 use Rattle.xdp_state.specs.Book.{Book, AllTaken, after, all_taken_from, applied, empty, made, takes}
 use Rattle.xdp_state.specs.declared.change.Change.{Change}
-use Rattle.xdp_state.specs.declared.change.Change.TheVariants.{Attach, Detach, DetachAll, SetRule, ClearRule}
+use Rattle.xdp_state.specs.declared.change.Change.TheVariants.{Attach, Detach, DetachAll, SetRule, ClearRule, DumpOn, DumpOff}
 
 pub count_made : (book : Book) (change : Change) → (made book change).count ≡ book.count + 1
 count_made book (Attach interface kind priority rank mask mode) = refl
@@ -12,6 +12,8 @@ count_made book (Detach interface number clear_rules) = refl
 count_made book (DetachAll interface) = refl
 count_made book (SetRule key flags) = refl
 count_made book (ClearRule key flags) = refl
+count_made book (DumpOn interface setting) = refl
+count_made book (DumpOff interface) = refl
 
 both : (a b : Bool) → (a && b) ≡ true → record { first : a ≡ true; second : b ≡ true }
 both true b h = record { first = refl; second = h }

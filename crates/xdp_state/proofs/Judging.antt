@@ -1,5 +1,5 @@
 -- What the questions of a command come to, and that what is accepted is taken.
-use Rattle.std.proofs.Common.{◌≡◌, ℕ, ◌<◌, ◌≤◌, true, false, Bool, not, nat_lt, nat_le, ◌==◌, ◌&&◌, ◌||◌, List, [], ◌∷◌, length, Option, Some, None, refl, ap, subst, if◌then◌else◌, arith}
+use Rattle.std.proofs.Common.{◌≡◌, ℕ, ◌<◌, ◌≤◌, true, false, Bool, not, nat_lt, nat_le, ◌==◌, ◌&&◌, ◌||◌, List, [], ◌∷◌, length, Option, Some, None, is_some, refl, ap, subst, if◌then◌else◌, arith}
 use Rattle.std.specs.List.{list_any, position, position_or_len}
 use Rattle.std.specs.Option.{unwrap_or}
 use Rattle.std.specs.Prelude.{slice_get, slice_index_or}
@@ -10,21 +10,22 @@ use Rattle.chain_order.specs.declared.member.Kind.{Kind}
 use Rattle.filter_rules.specs.Rules.{has_row, has_rule}
 use Rattle.filter_rules.specs.declared.rule.RuleKey.{RuleKey}
 use Rattle.object_load.specs.declared.program.Program.{Program}
-use Rattle.xdp_state.specs.Answer.{answer, at_interface, attach_answer, clear_answer, filter_answer, filter_off_answer, first_of, has_asked, lacks_feature, load_answer, load_change, loaded_at, object_answer, off_answer, off_change, program_answer, rule_fits, set_answer, status_answer, is_asked}
+use Rattle.xdp_state.specs.Answer.{answer, at_interface, attach_answer, clear_answer, dump_answer, dump_off_answer, filter_answer, filter_off_answer, first_of, has_asked, lacks_feature, load_answer, load_change, loaded_at, object_answer, off_answer, off_change, program_answer, rule_fits, set_answer, status_answer, is_asked}
 use Rattle.xdp_state.specs.Book.{Book, fits, has_own_flags, takes}
+use Rattle.xdp_state.specs.Dump.{dump_on}
 use Rattle.xdp_state.specs.Interfaces.{has_name, is_declared, interface_named}
 use Rattle.xdp_state.specs.Library.{filter_name, rank}
 use Rattle.xdp_state.specs.Members.{chain_on, differs, filter_number, has_filter, has_filter_elsewhere, has_filter_somewhere, is_filter, mode_on}
 use Rattle.xdp_state.specs.declared.change.Change.{Change}
-use Rattle.xdp_state.specs.declared.change.Change.TheVariants.{Attach, Detach, SetRule, ClearRule}
+use Rattle.xdp_state.specs.declared.change.Change.TheVariants.{Attach, Detach, SetRule, ClearRule, DumpOn, DumpOff}
 use Rattle.xdp_state.specs.declared.command.Command.{Command}
-use Rattle.xdp_state.specs.declared.command.Command.TheVariants.{LoaderLoad, LoaderUnload, LoaderStatus, FilterLoad, FilterUnload, FilterRule, FilterStatus}
+use Rattle.xdp_state.specs.declared.command.Command.TheVariants.{LoaderLoad, LoaderUnload, LoaderStatus, FilterLoad, FilterUnload, FilterRule, FilterStatus, DumpStart, DumpStop}
 use Rattle.xdp_state.specs.declared.command.LoadWords.{LoadWords}
 use Rattle.xdp_state.specs.declared.interface.Interface.{Interface}
 use Rattle.xdp_state.specs.declared.judgement.Judgement.{Judgement}
 use Rattle.xdp_state.specs.declared.judgement.Judgement.TheVariants.{Accepted, Shown}
 use Rattle.xdp_state.specs.declared.judgement.Reason.{Reason}
-use Rattle.xdp_state.specs.declared.judgement.Reason.TheVariants.{NoInterface, ModeDiffers, ChainFull, NothingLoaded, NoSuchId, FilterThere, FilterNotThere, FeatureMissing, RulesFull, NoSuchRule}
+use Rattle.xdp_state.specs.declared.judgement.Reason.TheVariants.{NoInterface, ModeDiffers, ChainFull, NothingLoaded, NoSuchId, FilterThere, FilterNotThere, FeatureMissing, RulesFull, NoSuchRule, DumpThere, DumpNotThere}
 use Rattle.xdp_state.specs.declared.library.Library.{Library}
 use Rattle.xdp_state.specs.declared.library.ObjectRow.{ObjectRow}
 use Rattle.xdp_state.specs.declared.library.Loaded.{Loaded}
@@ -178,6 +179,23 @@ clear-taken book key flags change count own is =
     let two = passed_two (not (has_filter_somewhere book.members)) (not (has_rule book.rows key flags)) FilterNotThere NoSuchRule (Accepted (ClearRule key flags)) change is in
     subst (λ change. takes book change ≡ true) (accepted_same (ClearRule key flags) change two.later) (rw (count, own) refl)
 
+dump-taken : (library : Library) (book : Book) (name : List ℕ) (setting : ℕ) (change : Change) → nat_lt book.count 65536 ≡ true → length library.interfaces ≤ 8 → at_interface library name (dump_answer book setting) ≡ Accepted change → takes book change ≡ true
+dump-taken library book name setting change count few is =
+    let h = at_interface-accepted library name (dump_answer book setting) change few is in
+    let interface : ℕ = interface_named library.interfaces name in
+    let one = passed (is_some (dump_on book.dumps interface)) DumpThere (Accepted (DumpOn interface setting)) change h.there in
+    let below = h.below in
+    let free = one.none in
+    subst (λ change. takes book change ≡ true) (accepted_same (DumpOn interface setting) change one.later) (rw (count, below, free) refl)
+
+dump_off-taken : (library : Library) (book : Book) (name : List ℕ) (change : Change) → nat_lt book.count 65536 ≡ true → length library.interfaces ≤ 8 → at_interface library name (dump_off_answer book) ≡ Accepted change → takes book change ≡ true
+dump_off-taken library book name change count few is =
+    let h = at_interface-accepted library name (dump_off_answer book) change few is in
+    let interface : ℕ = interface_named library.interfaces name in
+    let one = passed (not (is_some (dump_on book.dumps interface))) DumpNotThere (Accepted (DumpOff interface)) change h.there in
+    let below = h.below in
+    subst (λ change. takes book change ≡ true) (accepted_same (DumpOff interface) change one.later) (rw (count, below) refl)
+
 pub answer-taken : (library : Library) (book : Book) (command : Command) (change : Change) → rule_fits command ≡ true → length library.interfaces ≤ 8 → answer library book command ≡ Accepted change → book.count < 65536 → takes book change ≡ true
 answer-taken library book (LoaderLoad words) change fits few is room = load-taken library book words change (grind (arith, nat_tests)) few is
 answer-taken library book (LoaderUnload name id) change fits few is room = off-taken library book name id change (grind (arith, nat_tests)) few is
@@ -187,6 +205,8 @@ answer-taken library book (FilterUnload name keep) change fits few is room = fil
 answer-taken library book (FilterRule key flags true) change fits few is room = clear-taken book key flags change (grind (arith, nat_tests)) fits is
 answer-taken library book (FilterRule key flags false) change fits few is room = set-taken book key flags change (grind (arith, nat_tests)) fits is
 answer-taken library book FilterStatus change fits few is room = absurd cc
+answer-taken library book (DumpStart name setting) change fits few is room = dump-taken library book name setting change (grind (arith, nat_tests)) few is
+answer-taken library book (DumpStop name) change fits few is room = dump_off-taken library book name change (grind (arith, nat_tests)) few is
 
 -- the interface of a name that is declared
 found_case : (b : Bool) (named i : ℕ) (judged : ℕ → Judgement) → Some i ≡ (if b then Some named else None) → first_of (record { holds = not b; reason = NoInterface } ∷ []) (judged named) ≡ judged i

@@ -1,5 +1,6 @@
 pub mod Attaching
 pub mod Counts
+pub mod Framing
 pub mod HitRows
 pub mod HitSums
 pub mod Hooks

@@ -1,5 +1,5 @@
 -- What a command gets for an answer.
-use Rattle.std.specs.Prelude.{ℕ, nat_eq, ◌&&◌, ◌==◌, ◌++◌, Bool, true, false, not, nat_le, List, [], ◌∷◌, length, position, slice_get, Option, Some, None, unwrap_or, if◌then◌else◌}
+use Rattle.std.specs.Prelude.{ℕ, nat_eq, ◌&&◌, ◌==◌, ◌++◌, Bool, true, false, not, nat_le, List, [], ◌∷◌, length, position, slice_get, Option, Some, None, is_some, unwrap_or, if◌then◌else◌}
 use Rattle.std.specs.Cmp.Lexicographic.{pointwise}
 use Rattle.std.specs.List.{list_any}
 use Rattle.std.specs.Option.{option_map}
@@ -14,18 +14,19 @@ use Rattle.filter_rules.specs.declared.rule.RuleKind.{RuleKind}
 use Rattle.filter_rules.specs.declared.rule.RuleKind.TheVariants.{Port, Ip4, Ip6, Ether}
 use Rattle.object_load.specs.declared.program.Program.{Program}
 use Rattle.xdp_state.specs.Book.{Book, has_own_flags}
+use Rattle.xdp_state.specs.Dump.{dump_on}
 use Rattle.xdp_state.specs.Interfaces.{is_declared, interface_named}
 use Rattle.xdp_state.specs.Library.{number_of, filter_name, rank}
 use Rattle.xdp_state.specs.Members.{Attached, chain_on, differs, filter_number, has_filter, has_filter_elsewhere, has_filter_somewhere, is_on, mode_on}
 use Rattle.xdp_state.specs.declared.change.Change.{Change}
-use Rattle.xdp_state.specs.declared.change.Change.TheVariants.{Attach, Detach, DetachAll, SetRule, ClearRule}
+use Rattle.xdp_state.specs.declared.change.Change.TheVariants.{Attach, Detach, DetachAll, SetRule, ClearRule, DumpOn, DumpOff}
 use Rattle.xdp_state.specs.declared.command.Command.{Command}
-use Rattle.xdp_state.specs.declared.command.Command.TheVariants.{LoaderLoad, LoaderUnload, LoaderStatus, FilterLoad, FilterUnload, FilterRule, FilterStatus}
+use Rattle.xdp_state.specs.declared.command.Command.TheVariants.{LoaderLoad, LoaderUnload, LoaderStatus, FilterLoad, FilterUnload, FilterRule, FilterStatus, DumpStart, DumpStop}
 use Rattle.xdp_state.specs.declared.command.LoadWords.{LoadWords}
 use Rattle.xdp_state.specs.declared.judgement.Judgement.{Judgement}
 use Rattle.xdp_state.specs.declared.judgement.Judgement.TheVariants.{Accepted, Shown, Refused}
 use Rattle.xdp_state.specs.declared.judgement.Reason.{Reason}
-use Rattle.xdp_state.specs.declared.judgement.Reason.TheVariants.{NoInterface, BadObject, NoSuchProgram, ModeDiffers, ChainFull, NothingLoaded, NoSuchId, FilterThere, FilterNotThere, FeatureMissing, RulesFull, NoSuchRule}
+use Rattle.xdp_state.specs.declared.judgement.Reason.TheVariants.{NoInterface, BadObject, NoSuchProgram, ModeDiffers, ChainFull, NothingLoaded, NoSuchId, FilterThere, FilterNotThere, FeatureMissing, RulesFull, NoSuchRule, DumpThere, DumpNotThere}
 use Rattle.xdp_state.specs.declared.library.Library.{Library}
 use Rattle.xdp_state.specs.declared.library.Loaded.{Loaded}
 use Rattle.xdp_state.specs.declared.library.Loaded.TheVariants as loaded
@@ -151,6 +152,17 @@ clear_answer book key flags =
     ∷ record { holds = not (has_rule book.rows key flags); reason = NoSuchRule } ∷ [])
     (Accepted (ClearRule key flags))
 
+-- an interface has one dump
+abbrev pub dump_answer : Book → ℕ → ℕ → Judgement
+dump_answer book setting interface =
+    first_of (record { holds = is_some (dump_on book.dumps interface); reason = DumpThere } ∷ [])
+    (Accepted (DumpOn interface setting))
+
+abbrev pub dump_off_answer : Book → ℕ → Judgement
+dump_off_answer book interface =
+    first_of (record { holds = not (is_some (dump_on book.dumps interface)); reason = DumpNotThere } ∷ [])
+    (Accepted (DumpOff interface))
+
 abbrev pub answer : Library → Book → Command → Judgement
 answer library book (LoaderLoad words) = load_answer library book words
 answer library book (LoaderUnload name id) = at_interface library name (λ interface. off_answer book interface id)
@@ -161,6 +173,8 @@ answer library book (FilterUnload name keep) = at_interface library name (filter
 answer library book (FilterRule key flags remove) =
     if remove then clear_answer book key flags else set_answer book key flags
 answer library book FilterStatus = Shown
+answer library book (DumpStart name setting) = at_interface library name (dump_answer book setting)
+answer library book (DumpStop name) = at_interface library name (dump_off_answer book)
 
 -- a rule's flags are some flags of its kind
 abbrev pub rule_fits : Command → Bool

@@ -1,13 +1,14 @@
 -- What a list of changes makes, from nothing.
-use Rattle.std.specs.Prelude.{◌≡◌, ℕ, ◌+◌, ◌==◌, ◌&&◌, ◌||◌, Bool, true, not, nat_lt, nat_le, List, [], ◌∷◌, ◌++◌, length, fold, if◌then◌else◌}
+use Rattle.std.specs.Prelude.{◌≡◌, ℕ, ◌+◌, ◌==◌, ◌&&◌, ◌||◌, Bool, true, not, nat_lt, nat_le, List, [], ◌∷◌, ◌++◌, length, fold, replicate, slice_set, Option, Some, None, is_some, if◌then◌else◌}
 use Rattle.chain_order.specs.declared.member.Kind.{Kind}
 use Rattle.filter_rules.specs.Rule.{all_flags}
 use Rattle.filter_rules.specs.Rules.{has_row, set_rule, clear_rule}
 use Rattle.filter_rules.specs.declared.rule.RuleKey.{RuleKey}
 use Rattle.filter_rules.specs.declared.rule.RuleRow.{RuleRow}
+use Rattle.xdp_state.specs.Dump.{dump_on}
 use Rattle.xdp_state.specs.Members.{Attached, chain_on, differs, has_filter, is_filter, members_off, members_without, mode_on}
 use Rattle.xdp_state.specs.declared.change.Change.{Change}
-use Rattle.xdp_state.specs.declared.change.Change.TheVariants.{Attach, Detach, DetachAll, SetRule, ClearRule}
+use Rattle.xdp_state.specs.declared.change.Change.TheVariants.{Attach, Detach, DetachAll, SetRule, ClearRule, DumpOn, DumpOff}
 use Rattle.xdp_state.specs.declared.mode.Mode.{Mode}
 
 pub record Book : Type 0 where
@@ -15,11 +16,13 @@ pub record Book : Type 0 where
   pub members : List Attached
   -- in order of making
   pub rows : List RuleRow
+  -- by interface, the setting of the dump that is on
+  pub dumps : List (Option ℕ)
   -- of the publications so far
   pub count : ℕ
 
 abbrev pub empty : Book
-empty = record { members = []; rows = []; count = 0 }
+empty = record { members = []; rows = []; dumps = replicate 8 None; count = 0 }
 
 -- an interface has fewer than ten members, in no other mode, and where a filter comes no filter
 abbrev pub has_place : List Attached → ℕ → Kind → Mode → Bool
@@ -39,6 +42,8 @@ fits book (Detach interface number clear_rules) = nat_lt interface 8
 fits book (DetachAll interface) = nat_lt interface 8
 fits book (SetRule key flags) = has_own_flags key flags && (has_row book.rows key || nat_lt (length book.rows) 4096)
 fits book (ClearRule key flags) = has_own_flags key flags
+fits book (DumpOn interface setting) = nat_lt interface 8 && not (is_some (dump_on book.dumps interface))
+fits book (DumpOff interface) = nat_lt interface 8
 
 abbrev pub takes : Book → Change → Bool
 takes book change = nat_lt book.count 65536 && fits book change
@@ -53,7 +58,7 @@ made book (Attach interface kind priority rank mask mode) = record book {
   } ∷ [];
   count = book.count + 1;
 }
-made book (Detach interface number clear_rules) = record {
+made book (Detach interface number clear_rules) = record book {
   members = members_without book.members interface number;
   rows = if clear_rules then [] else book.rows;
   count = book.count + 1;
@@ -68,6 +73,14 @@ made book (SetRule key flags) = record book {
 }
 made book (ClearRule key flags) = record book {
   rows = clear_rule book.rows key flags;
+  count = book.count + 1;
+}
+made book (DumpOn interface setting) = record book {
+  dumps = slice_set book.dumps interface (Some setting);
+  count = book.count + 1;
+}
+made book (DumpOff interface) = record book {
+  dumps = slice_set book.dumps interface None;
   count = book.count + 1;
 }
 

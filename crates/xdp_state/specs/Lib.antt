@@ -2,6 +2,8 @@ pub mod Answer
 pub mod Book
 pub mod Capped
 pub mod Carrier
+pub mod Dump
+pub mod Frames
 pub mod Handed
 pub mod Hits
 pub mod Interfaces
@@ -18,6 +20,7 @@ pub mod StoreView
 pub mod Stores
 pub mod Sums
 pub mod SumsView
+pub mod Trails
 pub mod Traversal
 pub mod Traversals
 pub mod Work

@@ -1,8 +1,9 @@
 -- How a processor's own fields stand for where it is and for its last way, and the room that it keeps.
-use Rattle.std.specs.Prelude.{◌<◌, ◌≤◌, vec_capacity}
+use Rattle.std.specs.Prelude.{◌<◌}
 use Rattle.std.specs.Option.{option_map}
 use Rattle.bpf_machine.specs.Buffer.{bytes_in}
 use Rattle.xdp_state.specs.Carrier.{Carrier}
+use Rattle.xdp_state.specs.Trails.{IsEven, visits_in}
 use Rattle.xdp_state.specs.declared.own.Own.TheInside.{Inside}
 
 abbrev pub view_of : Inside → Carrier
@@ -14,7 +15,7 @@ view_of own = record {
     stores = own.machine.stores.items;
   };
   trip = option_map (λ verdict. record {
-    visits = own.visits.items;
+    visits = visits_in own.trail;
     verdict = verdict;
     target = own.target;
     frame = bytes_in own.machine.frame;
@@ -24,4 +25,4 @@ view_of own = record {
 -- one of eight interfaces, and room for the visits of ten members
 pub record HasRoom (own : Inside) : Type 0 where
   pub interface : own.interface < 8
-  pub visits : 10 ≤ vec_capacity own.visits
+  pub trail : IsEven own.trail

@@ -23,6 +23,7 @@ abbrev pub view_of : Inside → Book
 view_of s = record {
   members = in_order (attached_from 0 s.hooks.items) s.count;
   rows = s.rules;
+  dumps = s.dumps;
   count = s.count;
 }
 

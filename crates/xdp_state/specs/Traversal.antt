@@ -20,23 +20,29 @@ use Rattle.xio.specs.Action.{has_action}
 use Rattle.xio.specs.declared.action.Action.{Action}
 use Rattle.xio.specs.declared.action.Action.TheVariants.{Aborted, Drop, Pass, Tx, Redirect}
 use Rattle.xdp_state.specs.Book.{Book}
+use Rattle.xdp_state.specs.Dump.{captured_at, dump_on, snaps_of}
 use Rattle.xdp_state.specs.Handed.{Handed}
 use Rattle.xdp_state.specs.Library.{program_at}
 use Rattle.xdp_state.specs.Members.{chain_on}
 use Rattle.xdp_state.specs.Standing.{Standing}
 use Rattle.xdp_state.specs.Stores.{MemberMaps, maps_of, with_maps, prepared}
+use Rattle.xdp_state.specs.Trails.{visit_of}
+use Rattle.xdp_state.specs.declared.dump.Snaps.{Snaps}
 use Rattle.xdp_state.specs.declared.library.Library.{Library}
+use Rattle.xdp_state.specs.declared.trail.Seen.{Seen}
 use Rattle.xdp_state.specs.declared.traversal.Traversal.{Traversal}
 use Rattle.xdp_state.specs.declared.traversal.Visit.{Visit}
 
--- what stays the same while a packet goes its way: the filter's rows, the programs, and what a program is told
+-- what stays the same while a packet goes its way: the filter's rows, the programs, the setting of the dump that is on, and
+-- what a program is told
 pub record Setting : Type 0 where
   pub rows : List RuleRow
   pub library : Library
+  pub dump : Option ℕ
   pub env : Env
 
-abbrev pub setting_of : List RuleRow → Library → Env → Setting
-setting_of rows library env = record { rows = rows; library = library; env = env }
+abbrev pub setting_of : List RuleRow → Library → Option ℕ → Env → Setting
+setting_of rows library dump env = record { rows = rows; library = library; dump = dump; env = env }
 
 -- what goes from member to member: the packet in its buffer, and the processor's maps
 pub record Course : Type 0 where
@@ -46,8 +52,14 @@ pub record Course : Type 0 where
 abbrev pub course_of : Packet → List MemberMaps → Course
 course_of packet stores = record { packet = packet; stores = stores }
 
--- a visit, and the course behind it
+-- what a member made of the packet, and the course behind it
+pub record Made : Type 0 where
+  pub seen : Seen
+  pub course : Course
+
+-- the same with the frames that are kept
 pub record Passage : Type 0 where
+  pub seen : Seen
   pub visit : Visit
   pub course : Course
 
@@ -60,9 +72,10 @@ sent_to Tx target = 0
 sent_to Redirect target = target
 
 -- a program that ended so
-abbrev pub run_visit : ℕ → RunEnd → Visit
-run_visit number end = record {
-  number = number;
+abbrev pub run_seen : Member → RunEnd → Seen
+run_seen member end = record {
+  number = member.number;
+  kind = member.kind;
   action = end.action;
   cause = end.cause;
   target = sent_to end.action end.target;
@@ -70,54 +83,86 @@ run_visit number end = record {
 }
 
 -- a program that isn't there
-abbrev pub lost_visit : ℕ → Visit
-lost_visit number = record { number = number; action = Aborted; cause = Fault; target = 0; rule = None }
-
--- a filter, whose frame may end in a header that is read
-abbrev pub filter_visit : ℕ → FilterEnd → Visit
-filter_visit number (Hit rule action) = record { number = number; action = action; cause = Exit; target = 0; rule = Some rule }
-filter_visit number (Miss action) = record { number = number; action = action; cause = Exit; target = 0; rule = None }
-filter_visit number Cut = record { number = number; action = Aborted; cause = Exit; target = 0; rule = None }
-
--- a program writes to the packet and to its own maps
-abbrev pub run_passage : ℕ → Course → Outcome → Passage
-run_passage number course outcome = record {
-  visit = run_visit number outcome.answer;
-  course = record { packet = outcome.packet; stores = with_maps course.stores number outcome.maps };
+abbrev pub lost_seen : Member → Seen
+lost_seen member = record {
+  number = member.number;
+  kind = member.kind;
+  action = Aborted;
+  cause = Fault;
+  target = 0;
+  rule = None;
 }
 
-abbrev pub program_passage : Setting → Course → ℕ → Option Program → Passage
-program_passage setting course number None = record { visit = lost_visit number; course = course }
-program_passage setting course number (Some program) =
-    run_passage number course (outcome_of program.code.insns setting.env (maps_of course.stores number) course.packet)
+-- a filter, whose frame may end in a header that is read
+abbrev pub decided_seen : Member → Action → Option ℕ → Seen
+decided_seen member action rule = record {
+  number = member.number;
+  kind = member.kind;
+  action = action;
+  cause = Exit;
+  target = 0;
+  rule = rule;
+}
+
+abbrev pub filter_seen : Member → FilterEnd → Seen
+filter_seen member (Hit rule action) = decided_seen member action (Some rule)
+filter_seen member (Miss action) = decided_seen member action None
+filter_seen member Cut = decided_seen member Aborted None
+
+-- a program writes to the packet and to its own maps
+abbrev pub run_made : Member → Course → Outcome → Made
+run_made member course outcome = record {
+  seen = run_seen member outcome.answer;
+  course = record { packet = outcome.packet; stores = with_maps course.stores member.number outcome.maps };
+}
+
+abbrev pub program_made : Setting → Course → Member → Option Program → Made
+program_made setting course member None = record { seen = lost_seen member; course = course }
+program_made setting course member (Some program) =
+    run_made member course
+    (outcome_of program.code.insns setting.env (maps_of course.stores member.number) course.packet)
 
 -- a member by its kind; a filter changes nothing
-abbrev pub passage_as : Setting → Course → ℕ → Kind → Passage
-passage_as setting course number (kind.Program program) =
-    program_passage setting course number (program_at setting.library program)
-passage_as setting course number (kind.Filter policy features) = record {
-  visit = filter_visit number (verdict setting.rows (headers_of (bytes_in course.packet)) policy features);
+abbrev pub made_as : Setting → Course → Member → Kind → Made
+made_as setting course member (kind.Program program) =
+    program_made setting course member (program_at setting.library program)
+made_as setting course member (kind.Filter policy features) = record {
+  seen = filter_seen member (verdict setting.rows (headers_of (bytes_in course.packet)) policy features);
   course = course;
 }
 
-unfoldable pub passage : Setting → Course → Member → Passage
-passage setting course member = passage_as setting course member.number member.kind
+unfoldable pub made : Setting → Course → Member → Made
+made setting course member = made_as setting course member member.kind
 
--- the visits in order, the one that decided, if one did, and what is left
+-- the frame is kept as it comes in and as it goes out, where that is asked for
+abbrev pub kept_by : Snaps → Course → Made → Passage
+kept_by snaps course here = record {
+  seen = here.seen;
+  visit =
+      visit_of here.seen (captured_at snaps.entry (bytes_in course.packet))
+      (captured_at snaps.exit (bytes_in here.course.packet));
+  course = here.course;
+}
+
+unfoldable pub passage : Setting → Course → Member → Passage
+passage setting course member =
+    kept_by (snaps_of setting.library setting.dump member.kind) course (made setting course member)
+
+-- the visits in order, what decided, if one did, and what is left
 pub record Way : Type 0 where
   pub visits : List Visit
-  pub last : Option Visit
+  pub last : Option Seen
   pub course : Course
 
 abbrev pub decided : Passage → Way
-decided here = record { visits = here.visit ∷ []; last = Some here.visit; course = here.course }
+decided here = record { visits = here.visit ∷ []; last = Some here.seen; course = here.course }
 
 abbrev pub with_visit : Visit → Way → Way
 with_visit visit way = record way { visits = visit ∷ way.visits }
 
 -- Where a member's mask has the action of its visit the next one is visited; otherwise this visit decides.
 abbrev pub way_behind : ℕ → Passage → (Course → Way) → Way
-way_behind mask here next = if has_action mask here.visit.action then with_visit here.visit (next here.course) else decided here
+way_behind mask here next = if has_action mask here.seen.action then with_visit here.visit (next here.course) else decided here
 
 -- the members are visited in order
 unfoldable pub way_from : Setting → Course → List Member → Way
@@ -126,11 +171,11 @@ way_from setting course (member ∷ members) =
     way_behind member.mask (passage setting course member) (λ course. way_from setting course members)
 
 -- the action and the target of the visit that decides; where none does XDP_PASS, with target 0
-abbrev pub verdict_of : Option Visit → Action
-verdict_of last = option_map_or (λ v. v.action) last Pass
+abbrev pub verdict_of : Option Seen → Action
+verdict_of last = option_map_or (λ s. s.action) last Pass
 
-abbrev pub target_of : Option Visit → ℕ
-target_of last = option_map_or (λ v. v.target) last 0
+abbrev pub target_of : Option Seen → ℕ
+target_of last = option_map_or (λ s. s.target) last 0
 
 abbrev pub traversal_of : Way → Traversal
 traversal_of way = record {
@@ -152,7 +197,8 @@ env_of standing packet = record {
 -- the way of a packet that comes in where a processor stands
 unfoldable pub way_of : Library → Book → Standing → Handed → Way
 way_of library book standing packet =
-    way_from (setting_of book.rows library (env_of standing packet)) (course_of (filled packet.frame) standing.stores)
+    way_from (setting_of book.rows library (dump_on book.dumps standing.interface) (env_of standing packet))
+    (course_of (filled packet.frame) standing.stores)
     (chain_on book.members standing.interface)
 
 -- with the maps of the members that there are now

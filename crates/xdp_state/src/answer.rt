@@ -15,10 +15,12 @@ use crate::mode::{Mode, differs};
 use crate::state::{MEMBERS, State};
 use chain_order::Kind;
 
+mod dump;
 mod filter;
 mod loader;
 mod rules;
 
+use dump::{judge_dump, judge_dump_off};
 use filter::{judge_filter, judge_filter_off};
 use loader::{judge_load, judge_off, judge_status};
 use rules::{judge_clear, judge_set};
@@ -62,6 +64,10 @@ pub fn judge(state: &State, library: &Library, command: &Command) -> Judgement
             }
         }
         Command::FilterStatus => Judgement::Shown,
+        Command::DumpStart { interface, setting } => {
+            judge_dump(state, library, interface.as_slice(), *setting)
+        }
+        Command::DumpStop { interface } => judge_dump_off(state, library, interface.as_slice()),
     }
 }
 

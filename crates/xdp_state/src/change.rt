@@ -33,4 +33,12 @@ pub enum Change {
         key: RuleKey,
         flags: u8,
     },
+    /// A dump of this setting is on from now.
+    DumpOn {
+        interface: u32,
+        setting: u32,
+    },
+    DumpOff {
+        interface: u32,
+    },
 }

@@ -33,6 +33,14 @@ pub enum Command {
         remove: bool,
     },
     FilterStatus,
+    /// Turns a dump on, by the number of its setting.
+    DumpStart {
+        interface: Bytes,
+        setting: u32,
+    },
+    DumpStop {
+        interface: Bytes,
+    },
 }
 
 /// What a load asks for: the first program, in the object of this number, that has the name and whose section has the

@@ -28,6 +28,10 @@ pub enum Reason {
     RulesFull,
     /// No row with the key has any of the flags.
     NoSuchRule,
+    /// A dump is on for the interface already.
+    DumpThere,
+    /// No dump is on for the interface.
+    DumpNotThere,
 }
 
 /// The answer to a command: the change that it makes, that it only shows something, or why it is refused.

@@ -1,18 +1,23 @@
 ghost use Rattle.std.specs.Prelude.{◌≡◌, ◌<◌, ◌≤◌, ◌^◌, All, [], ◌∷◌, ◌++◌, length, take, OnOk, OnErr};
 ghost use Rattle.std.specs.Option.{option_copied};
 ghost use Rattle.object_load.specs.Load.{IsRunnable};
+ghost use Rattle.xdp_state.specs.Dump.{name_of};
 ghost use Rattle.xdp_state.specs.Library.{IsSound, programs_in, programs_of, program_at};
 
+use crate::dump::DumpList;
 use crate::interface::InterfaceList;
+use crate::names::FILTER_NAME;
+use chain_order::Kind;
 use lists::{Bytes, List, OutOfMemory};
 use object_load::{LoadRefusal, Program, ProgramList};
 use std::alloc::Global;
 
-/// What commands name by numbers: the interfaces, and the objects of the script in its order.
+/// What commands name by numbers: the interfaces, the objects of the script in its order, and the settings of its dumps.
 #[derive(Debug, Drop)]
 pub struct Library {
     pub interfaces: InterfaceList,
     pub objects: ObjectList,
+    pub dumps: DumpList,
 }
 
 pub type ObjectList = List<ObjectRow>;
@@ -45,13 +50,14 @@ impl Loaded {
 
 impl Library {
     /// A library without objects.
-    pub fn new(alloc: Global, interfaces: InterfaceList) -> Self
-        ensures library { result ≡ record { interfaces = interfaces; objects = [] } }
+    pub fn new(alloc: Global, interfaces: InterfaceList, dumps: DumpList) -> Self
+        ensures library { result ≡ record { interfaces = interfaces; objects = []; dumps = dumps } }
         ensures sound { IsSound result }
     {
         Library {
             interfaces,
             objects: ObjectList::new(alloc),
+            dumps,
         }
     }
 
@@ -84,6 +90,19 @@ impl Library {
             place -= programs.len();
         }
         None
+    }
+
+    /// A member's name; a program that isn't here has the empty one.
+    pub fn name_of(&self, member: Kind) -> &[u8]
+        ensures { result.now ≡ name_of self.now member }
+    {
+        match member {
+            Kind::Program(number) => match self.program(number) {
+                Some(program) => program.name.as_slice(),
+                None => &[],
+            },
+            Kind::Filter { .. } => FILTER_NAME,
+        }
     }
 }
 

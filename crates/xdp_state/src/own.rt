@@ -5,9 +5,10 @@ ghost use Rattle.xdp_state.specs.Traversal.{standing_for};
 
 use crate::library::Library;
 use crate::machine::Machine;
-use crate::state::{MEMBERS, State};
-use crate::traversal::{Traversal, Visit};
-use lists::{Bytes, List};
+use crate::state::State;
+use crate::trail::Trail;
+use crate::traversal::Traversal;
+use lists::Bytes;
 use std::alloc::Global;
 use std::marker::Model;
 use xio::{Action, OutOfMemory};
@@ -24,7 +25,7 @@ pub struct Own {
     interface: u32,
     queue: u32,
     machine: Machine,
-    visits: Vec<Visit>,
+    trail: Trail,
     verdict: Option<Action>,
     target: u32,
 }
@@ -59,7 +60,7 @@ impl Own {
             interface,
             queue,
             machine: Machine::new(alloc)?,
-            visits: Vec::with_capacity(alloc, MEMBERS as usize)?,
+            trail: Trail::new(alloc)?,
             verdict: None,
             target: 0,
         })
@@ -92,14 +93,6 @@ impl Own {
         self.target
     }
 
-    /// The visits of the last packet.
-    pub fn visits(&self) -> &[Visit]
-        requires { IsSome self.now.trip }
-        ensures { IfSome self.now.trip (λ trip. result.now ≡ trip.visits) }
-    {
-        self.visits.as_slice()
-    }
-
     /// The last packet's frame behind the chain.
     pub fn frame(&self) -> &[u8]
         requires { IsSome self.now.trip }
@@ -113,10 +106,7 @@ impl Own {
         requires { IsSome self.now.trip }
         ensures { IfOk result (λ trip. self.now.trip ≡ Some trip) }
     {
-        let mut visits = List::new(alloc);
-        for visit in &self.visits {
-            visits.push(*visit)?;
-        }
+        let visits = self.trail.copy(alloc)?;
         let mut frame = Bytes::new(alloc);
         frame.append(self.machine.frame.bytes())?;
         Ok(Traversal {

@@ -1,8 +1,9 @@
-ghost use Rattle.std.specs.Prelude.{◌≡◌, ◌+◌, ◌<◌, ◌||◌, true, nat_lt, List, [], ◌∷◌, ◌++◌, length, replicate, IfOk, if◌then◌else◌};
+ghost use Rattle.std.specs.Prelude.{◌≡◌, ◌+◌, ◌<◌, ◌||◌, true, nat_lt, List, [], ◌∷◌, ◌++◌, length, replicate, slice_set, Some, None, is_some, not, IfOk, if◌then◌else◌};
 ghost use Rattle.chain_order.specs.Chain.{IsChain, without};
 ghost use Rattle.chain_order.specs.declared.member.Member.{Member};
 ghost use Rattle.filter_rules.specs.Rules.{has_row, set_rule, clear_rule};
 ghost use Rattle.xdp_state.specs.Book.{has_place, has_own_flags};
+ghost use Rattle.xdp_state.specs.Dump.{dump_on};
 ghost use Rattle.xdp_state.specs.Members.{chain_on, members_off, members_without, mode_on};
 
 use crate::change::Change;
@@ -26,10 +27,12 @@ pub const MEMBERS: u32 = 10;
 /// How many changes may be made.
 pub const CHANGES: u32 = 65_536;
 
-/// What the changes so far have made: the members of each interface, the filter's rows and the number of publications.
+/// What the changes so far have made: the members of each interface and the setting of its dump, the filter's rows and the
+/// number of publications.
 #[derive(Debug, Drop)]
 pub struct State {
     hooks: Vec<Hook>,
+    dumps: [Option<u32>; INTERFACES as usize],
     rules: Rules,
     count: u32,
 }
@@ -54,6 +57,7 @@ impl State {
     {
         Ok(State {
             hooks: no_hooks(alloc)?,
+            dumps: [None; INTERFACES as usize],
             rules: Rules::new(alloc)?,
             count: 0,
         })
@@ -81,6 +85,14 @@ impl State {
     {
         let hook = &self.hooks[interface as usize];
         (hook.chain.len() > 0).then_some(hook.mode)
+    }
+
+    /// The setting of the dump on an interface, where one is on.
+    pub fn dump(&self, interface: u32) -> Option<u32>
+        requires { interface < 8 }
+        ensures { result ≡ dump_on self.now.dumps interface }
+    {
+        self.dumps[interface as usize]
     }
 
     /// The rules that all filters share.
@@ -131,6 +143,8 @@ impl State {
             Change::DetachAll { interface } => self.detach_all(interface),
             Change::SetRule { key, flags } => self.set_rule(key, flags),
             Change::ClearRule { key, flags } => self.clear_rule(key, flags),
+            Change::DumpOn { interface, setting } => self.set_dump(interface, Some(setting)),
+            Change::DumpOff { interface } => self.set_dump(interface, None),
         }
     }
 
@@ -155,7 +169,7 @@ impl State {
     fn detach(&mut self, interface: u32, number: u32, clear_rules: bool)
         requires known { interface < 8 }
         requires count { self.old.count < 65536 }
-        ensures { self.new ≡ record {
+        ensures { self.new ≡ record self.old {
           members = members_without self.old.members interface number;
           rows = if clear_rules then [] else self.old.rows;
           count = self.old.count + 1;
@@ -198,6 +212,16 @@ impl State {
         self.count += 1;
     }
 
+    /// Turns the dump of an interface on or off.
+    fn set_dump(&mut self, interface: u32, setting: Option<u32>)
+        requires known { interface < 8 }
+        requires count { self.old.count < 65536 }
+        ensures { self.new ≡ record self.old { dumps = slice_set self.old.dumps interface setting; count = self.old.count + 1 } }
+    {
+        self.dumps[interface as usize] = setting;
+        self.count += 1;
+    }
+
     /// Whether there is a place for the change.
     fn fits(&self, change: &Change) -> bool
         ensures { result ≡ fits self.now change.now }
@@ -209,13 +233,16 @@ impl State {
                 mode,
                 ..
             } => interface < INTERFACES && self.has_place(interface, kind, mode),
-            Change::Detach { interface, .. } | Change::DetachAll { interface } => {
-                interface < INTERFACES
-            }
+            Change::Detach { interface, .. }
+            | Change::DetachAll { interface }
+            | Change::DumpOff { interface } => interface < INTERFACES,
             Change::SetRule { key, flags } => {
                 has_own_flags(key, flags) && (self.rules.len() < ROWS || self.rules.contains(key))
             }
             Change::ClearRule { key, flags } => has_own_flags(key, flags),
+            Change::DumpOn { interface, .. } => {
+                interface < INTERFACES && self.dump(interface).is_none()
+            }
         }
     }
 

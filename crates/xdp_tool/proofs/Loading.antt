@@ -7,6 +7,7 @@ use Rattle.std.proofs.lemmas.Option.{get_or_from_slice_get, slice_get_within}
 use Rattle.script_text.specs.declared.script.Script.{Script}
 use Rattle.script_text.specs.declared.what.Line.{Line}
 use Rattle.xdp_state.specs.declared.interface.Interface.{Interface}
+use Rattle.xdp_state.specs.declared.dump.DumpSetting.{DumpSetting}
 use Rattle.xdp_state.specs.declared.library.Library.{Library}
 use Rattle.xdp_state.specs.declared.library.Loaded.{Loaded}
 use Rattle.xdp_state.specs.declared.library.ObjectRow.{ObjectRow}
@@ -104,23 +105,24 @@ with-all : (content : List ℕ → List ℕ) (script : Script) (objects : List O
 unfolding with_objects
 with-all content script objects few loads = rw (few, loads.small) refl
 
-prepared-same : (one other : Prepared) → one.library.interfaces ≡ other.library.interfaces → one.library.objects ≡ other.library.objects → one.lines ≡ other.lines → one ≡ other
-prepared-same one other interfaces objects lines =
+prepared-same : (one other : Prepared) → one.library.interfaces ≡ other.library.interfaces → one.library.objects ≡ other.library.objects → one.library.dumps ≡ other.library.dumps → one.lines ≡ other.lines → one ≡ other
+prepared-same one other interfaces objects dumps lines =
     let library : one.library ≡ other.library =
-    ap (λ (is : List Interface). let l : Library = record { interfaces = is; objects = one.library.objects } in l) interfaces
-    ∙ ap (λ (os : List ObjectRow). let l : Library = record { interfaces = other.library.interfaces; objects = os } in l) objects in
+    ap (λ (is : List Interface). let l : Library = record { interfaces = is; objects = one.library.objects; dumps = one.library.dumps } in l) interfaces
+    ∙ ap (λ (os : List ObjectRow). let l : Library = record { interfaces = other.library.interfaces; objects = os; dumps = one.library.dumps } in l) objects
+    ∙ ap (λ (ds : List DumpSetting). let l : Library = record { interfaces = other.library.interfaces; objects = other.library.objects; dumps = ds } in l) dumps in
     ap (λ (l : Library). let p : Prepared = record { library = l; lines = one.lines } in p) library
     ∙ ap (λ (ls : List Line). let p : Prepared = record { library = other.library; lines = ls } in p) lines
 
-pub all-loaded : (content : List ℕ → List ℕ) (script : Script) (library : Library) → nat_lt 16 (length script.objects) ≡ false → library.interfaces ≡ script.interfaces → Loads content script.objects library.objects → IsPrepared content (with_objects content script) (Ok (record { library = library; lines = script.lines }))
-all-loaded content script library few interfaces loads =
-    rw (with-all content script library.objects few loads) (record { interfaces = interfaces; objects = loads.loaded; lines = refl })
+pub all-loaded : (content : List ℕ → List ℕ) (script : Script) (library : Library) → nat_lt 16 (length script.objects) ≡ false → library.interfaces ≡ script.interfaces → library.dumps ≡ script.dumps → Loads content script.objects library.objects → IsPrepared content (with_objects content script) (Ok (record { library = library; lines = script.lines }))
+all-loaded content script library few interfaces dumps loads =
+    rw (with-all content script library.objects few loads) (record { interfaces = interfaces; objects = loads.loaded; dumps = dumps; lines = refl })
 
-pub all-only : (content : List ℕ → List ℕ) (script : Script) (library : Library) (prepared : Result Prepared Ending) → nat_lt 16 (length script.objects) ≡ false → library.interfaces ≡ script.interfaces → Loads content script.objects library.objects → IsPrepared content (with_objects content script) prepared → Gives (Ok (record { library = library; lines = script.lines })) prepared
-all-only content script library prepared few interfaces loads is = by_result prepared (rw (with-all content script library.objects few loads) at is)
+pub all-only : (content : List ℕ → List ℕ) (script : Script) (library : Library) (prepared : Result Prepared Ending) → nat_lt 16 (length script.objects) ≡ false → library.interfaces ≡ script.interfaces → library.dumps ≡ script.dumps → Loads content script.objects library.objects → IsPrepared content (with_objects content script) prepared → Gives (Ok (record { library = library; lines = script.lines })) prepared
+all-only content script library prepared few interfaces dumps loads is = by_result prepared (rw (with-all content script library.objects few loads) at is)
   where
     by_result : (r : Result Prepared Ending) → IsPrepared content (Ok script) r → r ≡ Ok (record { library = library; lines = script.lines })
-    by_result (Ok p) holds = ap Ok (prepared-same p (record { library = library; lines = script.lines }) (holds.interfaces ∙ sym interfaces) (loads.only p.library.objects holds.objects) holds.lines)
+    by_result (Ok p) holds = ap Ok (prepared-same p (record { library = library; lines = script.lines }) (holds.interfaces ∙ sym interfaces) (loads.only p.library.objects holds.objects) (holds.dumps ∙ sym dumps) holds.lines)
     by_result (Err e) holds = absurd holds
 
 -- too many objects

@@ -126,6 +126,7 @@ AreLoaded content _ _ = ⊥
 pub record Holds (content : List ℕ → List ℕ) (script : Script) (prepared : Prepared) : Type 0 where
   pub interfaces : prepared.library.interfaces ≡ script.interfaces
   pub objects : AreLoaded content script.objects prepared.library.objects
+  pub dumps : prepared.library.dumps ≡ script.dumps
   pub lines : prepared.lines ≡ script.lines
 
 -- what is prepared of a script with its objects, or how the run ends before its first line
@@ -150,7 +151,7 @@ phases_of (Ok performed) Whole = plan performed.script
 phases_of _ _ = []
 
 abbrev pub no_library : Library
-no_library = record { interfaces = []; objects = [] }
+no_library = record { interfaces = []; objects = []; dumps = [] }
 
 abbrev pub library_of : Result Performance Ending → Library
 library_of (Ok performed) = performed.script.library

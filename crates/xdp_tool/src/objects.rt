@@ -55,12 +55,13 @@ pub fn load_objects<F: Files>(
     let Script {
         interfaces,
         objects,
+        dumps,
         lines,
     } = script;
     if objects.len() > OBJECTS {
         return Err(Ending::Limit(LimitName::Objects));
     }
-    let mut library = Library::new(alloc, interfaces);
+    let mut library = Library::new(alloc, interfaces, dumps);
     for place in 0..objects.len() {
         let name = objects.at(place).as_slice();
         match load_object(alloc, files, name, &mut library) {

@@ -128,8 +128,11 @@ fn first_load(script: &Script, file: &[u8]) -> Option<usize>
 fn loads_file(objects: &NameList, file: &[u8], line: &Line) -> bool
     ensures { result ≡ loads_file objects.now file.now line.now }
 {
-    match &line.what {
-        What::Command(Command::LoaderLoad(words)) => is_named(objects, words.object, file),
+    let What::Command(command) = &line.what else {
+        return false;
+    };
+    match command.get() {
+        Command::LoaderLoad(words) => is_named(objects, words.object, file),
         _ => false,
     }
 }

@@ -100,7 +100,7 @@ impl<'a> Walk<'a> {
         ensures same { self.new.script.now ≡ self.old.script.now }
     {
         match &line.what {
-            What::Command(command) => self.answer(state, line.line, command),
+            What::Command(command) => self.answer(state, line.line, command.get()),
             What::Packet { processor, frame } => {
                 self.hand_in(alloc, state, line.line, *processor, frame.as_slice())
             }

@@ -211,9 +211,36 @@ const EMPTY: Script = Script {
     trace: "xdptrace 1\nphase 0\nend\n",
 };
 
+/// A dump that is turned on and off, and each of these where it isn't taken.
+const DUMPS: Script = Script {
+    text: "interface eth0 1
+xdpdump stop eth0
+xdpdump start eth0 -p xdp_filter --rx-capture entry,exit
+xdpdump start eth0
+xdp-filter load eth0
+packet eth0 0 02000000000102000000000288b5
+xdpdump stop eth0
+",
+    status: 1,
+    out: "2 refused dump not there
+3 ok 1
+4 refused dump there
+5 ok 2
+6 handed 1
+7 ok 3
+end 3
+  cpu 0 eth0/0 packets 1 bytes 14 aborted 0 drop 0 pass 1 tx 0 redirect 0
+",
+    trace: "xdptrace 1
+phase 0
+0 0 2 pass 0 14 02000000000102000000000288b5
+end
+",
+};
+
 #[test]
 fn runs_scripts(rt: HostRuntime) -> Result<(), Fail> {
-    for script in [ADDRESS, PORT, FRAMES, CHANGES, EMPTY] {
+    for script in [ADDRESS, PORT, FRAMES, CHANGES, EMPTY, DUMPS] {
         let run = run(rt.alloc(), &["--trace", "t", "s"], script.text, STEADY)?;
         assert!(rt; run.ended_so(script.status, 0));
         assert!(rt; run.said(script.out, ""));
@@ -224,7 +251,7 @@ fn runs_scripts(rt: HostRuntime) -> Result<(), Fail> {
 
 #[test]
 fn replays_its_own_trace(rt: HostRuntime) -> Result<(), Fail> {
-    for script in [ADDRESS, PORT, FRAMES, CHANGES, EMPTY] {
+    for script in [ADDRESS, PORT, FRAMES, CHANGES, EMPTY, DUMPS] {
         let run = replay(rt.alloc(), script.text, script.trace)?;
         assert!(rt; run.ended_so(script.status, 0) && run.said(script.out, ""));
     }

@@ -1,19 +1,22 @@
-ghost use Rattle.std.specs.Prelude.{◌≡◌, ◌≤◌, length, vec_capacity, List, Some, [], true};
+ghost use Rattle.std.specs.Prelude.{◌≡◌, ◌≤◌, ℕ, length, List, Option, Some, [], true};
 ghost use Rattle.chain_order.specs.declared.member.Member.{Member};
 ghost use Rattle.filter_rules.specs.Verdict.{verdict};
 ghost use Rattle.filter_rules.specs.declared.rule.RuleRow.{RuleRow};
 ghost use Rattle.net_headers.specs.Headers.{headers_of};
 ghost use Rattle.xdp_state.specs.Library.{IsSound, program_at};
+ghost use Rattle.xdp_state.specs.Dump.{dump_on};
 ghost use Rattle.xdp_state.specs.Own.{IsPrepared};
 ghost use Rattle.xdp_state.specs.Stores.{AreReady, is_ready, is_ready_as, entry_of};
-ghost use Rattle.xdp_state.specs.Traversal.{course_of, filter_visit, passage, program_passage, run_visit, sent_to, setting_of, standing_behind, target_of, traversal_of, verdict_of, way_from, way_of};
+ghost use Rattle.xdp_state.specs.Traversal.{course_of, filter_seen, made, program_made, run_seen, sent_to, setting_of, standing_behind, target_of, traversal_of, verdict_of, way_from, way_of};
+ghost use Rattle.xdp_state.specs.Trails.{IsEven, visits_in};
 
 use super::Own;
+use crate::dump::snaps_of;
 use crate::library::Library;
 use crate::machine::Machine;
 use crate::packet::Packet;
 use crate::state::State;
-use crate::traversal::Visit;
+use crate::trail::{Seen, Trail};
 use bpf_machine::{Cause, Env, RunEnd};
 use chain_order::{Chain, Kind, Member};
 use filter_rules::{FilterEnd, Policy, Rules};
@@ -28,7 +31,7 @@ pub fn traverse(state: &State, library: &Library, own: &mut Own, packet: &Packet
         ≡ standing_behind own.old.standing (way_of library.now state.now own.old.standing packet.now) }
     ensures trip { own.new.trip ≡ Some (traversal_of (way_of library.now state.now own.old.standing packet.now)) }
 {
-    own.visits.clear();
+    own.trail.clear();
     own.machine.frame.fill(packet.frame.as_slice());
     let env = Env {
         timestamp: packet.timestamp,
@@ -39,81 +42,80 @@ pub fn traverse(state: &State, library: &Library, own: &mut Own, packet: &Packet
     let last = visit_all(
         state.rules(),
         library,
+        state.dump(own.interface),
         &env,
         state.chain(own.interface),
         &mut own.machine,
-        &mut own.visits,
+        &mut own.trail,
     );
     let (verdict, target) = decided_by(last);
     own.verdict = Some(verdict);
     own.target = target;
 }
 
-/// The verdict and its target: those of the visit that decides, and XDP_PASS where none does.
-fn decided_by(last: Option<Visit>) -> (Action, u32)
+/// The verdict and its target: those of the member that decides, and XDP_PASS where none does.
+fn decided_by(last: Option<Seen>) -> (Action, u32)
     ensures verdict { result.0 ≡ verdict_of last }
     ensures target { result.1 ≡ target_of last }
 {
     match last {
-        Some(visit) => (visit.action, visit.target),
+        Some(seen) => (seen.action, seen.target),
         None => (Action::Pass, 0),
     }
 }
 
-/// Visits the members in order, and answers the visit that decides.
+/// Visits the members in order, and answers what the one made that decides.
 fn visit_all(
     rules: &Rules,
     library: &Library,
+    dump: Option<u32>,
     env: &Env,
     chain: &Chain,
     machine: &mut Machine,
-    visits: &mut Vec<Visit>,
-) -> Option<Visit>
+    trail: &mut Trail,
+) -> Option<Seen>
     requires sound { IsSound library.now }
     requires ready { AreReady library.now machine.old.stores.items chain.now }
-    requires none { visits.old.items ≡ [] }
-    requires room { 10 ≤ vec_capacity visits.old }
-    ensures way { way_from (setting_of rules.now library.now env.now) (course_of machine.old.frame machine.old.stores.items) chain.now
-        ≡ record { visits = visits.new.items; last = result; course = course_of machine.new.frame machine.new.stores.items } }
-    ensures room { vec_capacity visits.new ≡ vec_capacity visits.old }
+    requires none { trail.old.seen.items ≡ [] }
+    requires even { IsEven trail.old }
+    ensures way { way_from (setting_of rules.now library.now dump env.now) (course_of machine.old.frame machine.old.stores.items) chain.now
+        ≡ record { visits = visits_in trail.new; last = result; course = course_of machine.new.frame machine.new.stores.items } }
+    ensures even { IsEven trail.new }
 {
     for place in 0..chain.len() {
         let member = chain.at(place);
-        let visit = visit(rules, library, env, machine, member);
-        visits.push_reserved(visit);
-        if !visit.action.is_in(member.mask) {
-            return Some(visit);
+        let snaps = snaps_of(library, dump, member.kind);
+        trail.enter(&machine.frame, snaps.entry);
+        let seen = visit(rules, library, env, machine, member);
+        trail.leave(&machine.frame, snaps.exit, seen);
+        if !seen.action.is_in(member.mask) {
+            return Some(seen);
         }
     }
     None
 }
 
 /// What one member makes of the packet.
-#[tactic(auto, unfolding(crate::specs::Traversal::passage))]
+#[tactic(auto, unfolding(crate::specs::Traversal::made))]
 fn visit(
     rules: &Rules,
     library: &Library,
     env: &Env,
     machine: &mut Machine,
     member: &Member,
-) -> Visit
+) -> Seen
     requires sound { IsSound library.now }
     requires ready { is_ready library.now machine.old.stores.items member.now ≡ true }
-    ensures passage { passage (setting_of rules.now library.now env.now) (course_of machine.old.frame machine.old.stores.items) member.now
-        ≡ record { visit = result; course = course_of machine.new.frame machine.new.stores.items } }
+    ensures made { (dump : Option ℕ) →
+        made (setting_of rules.now library.now dump env.now) (course_of machine.old.frame machine.old.stores.items) member.now
+        ≡ record { seen = result; course = course_of machine.new.frame machine.new.stores.items } }
     ensures ready { (chain : List Member) → AreReady library.now machine.old.stores.items chain
         → AreReady library.now machine.new.stores.items chain }
 {
     match member.kind {
-        Kind::Program(program) => visit_program(library, env, machine, member.number, program),
+        Kind::Program(program) => visit_program(library, env, machine, member, program),
         Kind::Filter { policy, features } => {
-            visit_filter(
-                rules,
-                machine.frame.bytes(),
-                member.number,
-                policy,
-                features,
-            )
+            visit_filter(rules, machine.frame.bytes(), member, policy, features)
         }
     }
 }
@@ -123,22 +125,23 @@ fn visit_program(
     library: &Library,
     env: &Env,
     machine: &mut Machine,
-    number: u32,
+    member: &Member,
     program: u32,
-) -> Visit
+) -> Seen
     requires sound { IsSound library.now }
-    requires ready { is_ready_as (program_at library.now program) (entry_of machine.old.stores.items number) ≡ true }
-    ensures passage { (rows : List RuleRow) →
-        program_passage (setting_of rows library.now env.now) (course_of machine.old.frame machine.old.stores.items) number
+    requires ready { is_ready_as (program_at library.now program) (entry_of machine.old.stores.items member.now.number) ≡ true }
+    ensures made { (rows : List RuleRow) (dump : Option ℕ) →
+        program_made (setting_of rows library.now dump env.now) (course_of machine.old.frame machine.old.stores.items) member.now
         (program_at library.now program)
-        ≡ record { visit = result; course = course_of machine.new.frame machine.new.stores.items } }
+        ≡ record { seen = result; course = course_of machine.new.frame machine.new.stores.items } }
     ensures ready { (chain : List Member) → AreReady library.now machine.old.stores.items chain
         → AreReady library.now machine.new.stores.items chain }
 {
     match library.program(program) {
-        Some(program) => end_visit(number, machine.run(number, &program.code, env)),
-        None => Visit {
-            number,
+        Some(program) => end_visit(member, machine.run(member.number, &program.code, env)),
+        None => Seen {
+            number: member.number,
+            kind: member.kind,
             action: Action::Aborted,
             cause: Cause::Fault,
             target: 0,
@@ -147,16 +150,17 @@ fn visit_program(
     }
 }
 
-/// The visit of a program that ended so. Only a redirect has a target.
-fn end_visit(number: u32, end: RunEnd) -> Visit
-    ensures { result ≡ run_visit number end }
+/// What a program made that ended so. Only a redirect has a target.
+fn end_visit(member: &Member, end: RunEnd) -> Seen
+    ensures { result ≡ run_seen member.now end }
 {
     let target = match end.action {
         Action::Redirect => end.target,
         Action::Aborted | Action::Drop | Action::Pass | Action::Tx => 0,
     };
-    Visit {
-        number,
+    Seen {
+        number: member.number,
+        kind: member.kind,
         action: end.action,
         cause: end.cause,
         target,
@@ -165,9 +169,9 @@ fn end_visit(number: u32, end: RunEnd) -> Visit
 }
 
 /// Asks a filter about a frame.
-fn visit_filter(rules: &Rules, frame: &[u8], number: u32, policy: Policy, features: u8) -> Visit
+fn visit_filter(rules: &Rules, frame: &[u8], member: &Member, policy: Policy, features: u8) -> Seen
     requires { 14 ≤ length frame.now }
-    ensures { result ≡ filter_visit number (verdict rules.now (headers_of frame.now) policy features) }
+    ensures { result ≡ filter_seen member.now (verdict rules.now (headers_of frame.now) policy features) }
 {
     let Ok(headers) = headers(frame) else {
         unreachable!()
@@ -177,8 +181,9 @@ fn visit_filter(rules: &Rules, frame: &[u8], number: u32, policy: Policy, featur
         FilterEnd::Miss { action } => (action, None),
         FilterEnd::Cut => (Action::Aborted, None),
     };
-    Visit {
-        number,
+    Seen {
+        number: member.number,
+        kind: member.kind,
         action,
         cause: Cause::Exit,
         target: 0,

@@ -12,6 +12,7 @@ impl State {
     {
         Ok(State {
             hooks: copy_all(*self.hooks.allocator(), &self.hooks)?,
+            dumps: self.dumps,
             rules: self.rules.copy()?,
             count: self.count,
         })

@@ -39,3 +39,11 @@ returns-in-FeatureMissing g c = rw c.in-FeatureMissing.is c.print-in-FeatureMiss
 pub returns-in-NoSuchRule : goal.returns-in-NoSuchRule
 unfolding reason_text
 returns-in-NoSuchRule g c = rw c.in-NoSuchRule.is c.print-in-NoSuchRule.ensures
+
+pub returns-in-DumpThere : goal.returns-in-DumpThere
+unfolding reason_text
+returns-in-DumpThere g c = rw c.in-DumpThere.is c.print-in-DumpThere.ensures
+
+pub returns-in-DumpNotThere : goal.returns-in-DumpNotThere
+unfolding reason_text
+returns-in-DumpNotThere g c = rw c.in-DumpNotThere.is c.print-in-DumpNotThere.ensures

@@ -57,3 +57,19 @@ pub returns-else-remove-clause-taken : goal.returns-else-remove-clause-taken
 returns-else-remove-clause-taken c = λ change is room.
     answer-taken c.args.library.now c.args.state.now c.args.command.now change c.requires.rule c.requires.interfaces
     (sym (returns-else-remove-clause-answer c) ∙ is) room
+
+pub returns-in-DumpStart-clause-answer : goal.returns-in-DumpStart-clause-answer
+returns-in-DumpStart-clause-answer c = rw c.in-DumpStart.is (rw c.as_slice-in-DumpStart.ensures at c.judge_dump.ensures)
+
+pub returns-in-DumpStart-clause-taken : goal.returns-in-DumpStart-clause-taken
+returns-in-DumpStart-clause-taken c = λ change is room.
+    answer-taken c.args.library.now c.args.state.now c.args.command.now change c.requires.rule c.requires.interfaces
+    (sym (returns-in-DumpStart-clause-answer c) ∙ is) room
+
+pub returns-in-DumpStop-clause-answer : goal.returns-in-DumpStop-clause-answer
+returns-in-DumpStop-clause-answer c = rw c.in-DumpStop.is (rw c.as_slice-in-DumpStop.ensures at c.judge_dump_off.ensures)
+
+pub returns-in-DumpStop-clause-taken : goal.returns-in-DumpStop-clause-taken
+returns-in-DumpStop-clause-taken c = λ change is room.
+    answer-taken c.args.library.now c.args.state.now c.args.command.now change c.requires.rule c.requires.interfaces
+    (sym (returns-in-DumpStop-clause-answer c) ∙ is) room

@@ -15,6 +15,7 @@ pub loop-place-init : goal.loop-place-init
 loop-place-init g c = record {
   loads = λ tells. rw c.new-library.ensures.library (loads-none (g.F.Files.told c.args.files.now).content);
   interfaces = ap (λ (l : Library). l.interfaces) c.new-library.ensures.library;
+  dumps = ap (λ (l : Library). l.dumps) c.new-library.ensures.library;
   sound = c.new-library.ensures.sound;
   reads = λ tells. reads-start _ tt;
   same_read_faults = refl;
@@ -39,6 +40,7 @@ loop-place-preserved g c =
           let is : IsObject g.F.Files.tells (g.F.Files.told c.args.files.now).content name c.loop-place.library c.load_object.new.library = rw (inv.reads tells).unmade.content at loaded in
           loads-more g.F.Files.tells (g.F.Files.told c.args.files.now).content names place name c.loop-place.library c.load_object.new.library here tells (inv.loads tells) is;
       interfaces = ap (λ (l : Library). l.interfaces) loaded.is.added ∙ inv.interfaces;
+      dumps = ap (λ (l : Library). l.dumps) loaded.is.added ∙ inv.dumps;
       sound = c.in-Ok.ensures.sound;
       reads = λ tells. reads-more (g.F.Files.told c.args.files.now) (g.F.Files.told c.loop-place.files) (g.F.Files.told c.load_object.new.files) names place name here (inv.reads tells) (c.in-Ok.ensures.reads tells);
       same_read_faults = c.in-Ok.ensures.same_read_faults ∙ inv.same_read_faults;
@@ -80,7 +82,7 @@ returns-clause-loaded g c = λ tells.
     let names = c.args.script.objects in
     let past : length names ≤ c.loop-place.place = omega (arith, c.loop-place-test.false, c.len-place-end.ensures) in
     let few : nat_lt 16 (length names) ≡ false = grind (arith, nat_tests, c.if-len-gt-OBJECTS.false, c.len.ensures) in
-    all-loaded (g.F.Files.told c.args.files.now).content c.args.script c.loop-place.library few inv.interfaces (loads-all (g.F.Files.told c.args.files.now).content names c.loop-place.place c.loop-place.library.objects past (inv.loads tells))
+    all-loaded (g.F.Files.told c.args.files.now).content c.args.script c.loop-place.library few inv.interfaces inv.dumps (loads-all (g.F.Files.told c.args.files.now).content names c.loop-place.place c.loop-place.library.objects past (inv.loads tells))
 
 pub returns-clause-only : goal.returns-clause-only
 returns-clause-only g c = λ tells prepared is.
@@ -88,7 +90,7 @@ returns-clause-only g c = λ tells prepared is.
     let names = c.args.script.objects in
     let past : length names ≤ c.loop-place.place = omega (arith, c.loop-place-test.false, c.len-place-end.ensures) in
     let few : nat_lt 16 (length names) ≡ false = grind (arith, nat_tests, c.if-len-gt-OBJECTS.false, c.len.ensures) in
-    all-only (g.F.Files.told c.args.files.now).content c.args.script c.loop-place.library prepared few inv.interfaces (loads-all (g.F.Files.told c.args.files.now).content names c.loop-place.place c.loop-place.library.objects past (inv.loads tells)) is
+    all-only (g.F.Files.told c.args.files.now).content c.args.script c.loop-place.library prepared few inv.interfaces inv.dumps (loads-all (g.F.Files.told c.args.files.now).content names c.loop-place.place c.loop-place.library.objects past (inv.loads tells)) is
 
 pub returns-clause-reads : goal.returns-clause-reads
 returns-clause-reads g c = λ tells.

@@ -8,6 +8,7 @@ abbrev pub invariant-loop-place : goal.invariant-loop-place
 invariant-loop-place g l = record {
   loads : IsTrue g.F.Files.tells → Loads (g.F.Files.told l.fn.files).content (take l.place l.fn.script.objects) l.library.objects;
   interfaces : l.library.interfaces ≡ l.fn.script.interfaces;
+  dumps : l.library.dumps ≡ l.fn.script.dumps;
   sound : IsSound l.library;
   reads : IsTrue g.F.Files.tells → IsReadUpTo (g.F.Files.told l.fn.files) (g.F.Files.told l.files) (take l.place l.fn.script.objects);
   same_read_faults : g.F.Files.read_faults l.files ≡ g.F.Files.read_faults l.fn.files;

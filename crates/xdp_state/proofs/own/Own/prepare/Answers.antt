@@ -2,6 +2,7 @@ use Rattle.std.proofs.Common.{ap, ◌∙◌}
 use Rattle.std.proofs.lemmas.Result.{on_err_weaker, on_ok_weaker}
 use Rattle.xdp_state.specs.Standing.{Standing}
 use Rattle.xdp_state.specs.Stores.{prepared}
+use Rattle.xdp_state.specs.Trails.{visits_in}
 use Rattle.xdp_state.proofs.Ways.{same_carrier}
 use Rattle.xdp_state.proofs.own.Own.prepare.Goals as goal
 
@@ -11,7 +12,7 @@ returns-clause-ok c =
     let new = c.prepare.new.self in
     on_ok_weaker c.prepare.result (λ stores. rw (← c.self.view_is) (same_carrier
     (record { processor = own.processor; interface = own.interface; queue = own.queue; stores = new.stores.items })
-    _ new.frame own.machine.frame own.visits.items own.verdict own.target
+    _ new.frame own.machine.frame (visits_in own.trail) own.verdict own.target
     (ap (λ stores. let standing : Standing = record { processor = own.processor; interface = own.interface; queue = own.queue; stores = stores } in standing)
     (stores ∙ ap (λ chain. prepared c.args.library.now chain own.machine.stores.items) c.chain.ensures))
     c.prepare.ensures.frame)) c.prepare.ensures.stores
@@ -26,6 +27,6 @@ returns-clause-err c =
     let new = c.prepare.new.self in
     on_err_weaker c.prepare.result (λ same. rw (← c.self.view_is) (same_carrier
     (record { processor = own.processor; interface = own.interface; queue = own.queue; stores = new.stores.items })
-    _ new.frame own.machine.frame own.visits.items own.verdict own.target
+    _ new.frame own.machine.frame (visits_in own.trail) own.verdict own.target
     (ap (λ stores. let standing : Standing = record { processor = own.processor; interface = own.interface; queue = own.queue; stores = stores } in standing) same)
     c.prepare.ensures.frame)) c.prepare.ensures.err
