@@ -57,7 +57,11 @@ fn rows_are<'a>(table: &RuleTable<CountedKey<'a>>, rows: &[(u32, u8, u32)]) -> b
         return false;
     }
     for index in 0..table.len() {
-        let row = (table.key(index).number, table.flags(index), table.number(index));
+        let row = (
+            table.key(index).number,
+            table.flags(index),
+            table.number(index),
+        );
         if rows.get(index as usize) != Some(&row) {
             return false;
         }
