@@ -14,7 +14,7 @@ use Rattle.script_text.specs.Addresses.{group_of, octet_of, octets_of}
 use Rattle.script_text.specs.Filter.{direction_flags, protocol_flags}
 use Rattle.script_text.specs.Lists.{bits_end, bits_of, directions_of, list_text, protocols_of}
 use Rattle.script_text.specs.declared.vocabulary.BitNames.{BitNames}
-use Rattle.script_text.specs.declared.vocabulary.BitNames.TheVariants.{Features, AddressFlags, PortFlags, Actions}
+use Rattle.script_text.specs.declared.vocabulary.BitNames.TheVariants.{Features, AddressFlags, PortFlags, Actions, Sides}
 use Rattle.script_text.specs.declared.word_lists.Directions.{Directions}
 use Rattle.script_text.specs.declared.word_lists.Directions.TheVariants as direction
 use Rattle.script_text.specs.declared.word_lists.Protocols.{Protocols}
@@ -72,6 +72,7 @@ lists_below Features = refl
 lists_below AddressFlags = refl
 lists_below PortFlags = refl
 lists_below Actions = refl
+lists_below Sides = refl
 
 pub lists_back : (names : BitNames) (bits : ℕ) → 0 < bits → bits < bits_end names → bits_of names (list_text names bits) ≡ Some bits
 lists_back names bits some within =
