@@ -8,6 +8,8 @@ mod changes;
 #[cfg(test)]
 mod counted_key;
 #[cfg(test)]
+mod journey;
+#[cfg(test)]
 mod programs;
 #[cfg(test)]
 mod rules;

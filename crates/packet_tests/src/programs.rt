@@ -4,6 +4,7 @@ ghost use Rattle.object_load.specs.Load.{IsRunnable};
 ghost use Rattle.xdp_state.specs.Library.{IsSound, programs_in};
 
 use crate::answers::judged;
+use crate::journey::{Journey, gone, told};
 use bpf_machine::Cause;
 use filter_rules::Policy;
 use lists::{Bytes, OutOfMemory};
@@ -11,20 +12,19 @@ use object_load::{LoadEnd, programs_of};
 use std::alloc::Global;
 use std::test::Fail;
 use xdp_state::{
-    Change, Command, DumpList, DumpSetting, Interface, InterfaceList, Judgement, KeptFrame,
-    Library, LoadWords, Loaded, Mode, NameList, ObjectRow, Own, Packet, Reason, State, Traversal,
-    traverse,
+    Change, Command, DumpList, DumpSetting, Interface, InterfaceList, Judgement, Library,
+    LoadWords, Loaded, Mode, NameList, ObjectRow, Reason, State,
 };
 use xio::Action;
 
 /// r0 = 2; exit.
-const PASS: &[u64] = &[0x0002_0000_00b7, 0x95];
+const PASS: Code = [0x0002_0000_00b7, 0x95, 0x95, 0x95, 0x95, 0x95];
 
 /// r0 = 1; exit.
-const DROP: &[u64] = &[0x0001_0000_00b7, 0x95];
+const DROP: Code = [0x0001_0000_00b7, 0x95, 0x95, 0x95, 0x95, 0x95];
 
 /// Writes over the packet's first byte, and then to its end, which faults.
-const WRITES_PAST: &[u64] = &[
+const WRITES_PAST: Code = [
     0x1261,
     0x00ff_0000_0272,
     0x0004_1361,
@@ -35,43 +35,40 @@ const WRITES_PAST: &[u64] = &[
 
 const FRAME: [u8; 14] = [2, 0, 0, 0, 0, 1, 2, 0, 0, 0, 0, 2, 0x88, 0xb5];
 
-/// The least object with one program: the words of its header, code, symbols and sections (ELF64).
-fn object(alloc: Global, name: u8, code: &[u64]) -> Result<Bytes, OutOfMemory>
-    requires { length code.now ≤ 100 }
-{
-    let size = 8 * code.len() as u64;
-    let strings = 112 + size;
-    let header = [
-        0x0001_0102_464c_457f,
-        0,
-        0x0001_00f7_0001,
-        0,
-        0,
-        strings + 24,
-        0x0040_0000_0000,
-        0x0003_0004_0040_0000,
-    ];
-    let symbols = [0, 0, 0, 0x0001_0012_0000_0015, 0, size];
-    let code_section = [0x0001_0000_0001, 6, 0, 64, size, 0, 8, 0];
-    let symbol_section = [
-        0x0002_0000_0005,
-        0,
-        0,
-        64 + size,
-        48,
-        0x0001_0000_0003,
-        8,
-        24,
-    ];
-    let string_section = [0x0003_0000_000d, 0, 0, strings, 23, 0, 1, 0];
+/// Six instructions.
+type Code = [u64; 6];
+
+/// The least object with one program of six instructions, in words (ELF64): its header, symbols and sections.
+const HEADER: &[u64] = &[
+    0x0001_0102_464c_457f,
+    0,
+    0x0001_00f7_0001,
+    0,
+    0,
+    184,
+    0x0040_0000_0000,
+    0x0003_0004_0040_0000,
+];
+
+const SYMBOLS: &[u64] = &[0, 0, 0, 0x0001_0012_0000_0015, 0, 48];
+
+const SECTIONS: &[&[u64]] = &[
+    &[0; 8],
+    &[0x0001_0000_0001, 6, 0, 64, 48, 0, 8, 0],
+    &[0x0002_0000_0005, 0, 0, 112, 48, 0x0001_0000_0003, 8, 24],
+    &[0x0003_0000_000d, 0, 0, 160, 23, 0, 1, 0],
+];
+
+/// The object whose program has this name of one letter.
+fn object(alloc: Global, name: u8, code: &Code) -> Result<Bytes, OutOfMemory> {
     let mut bytes = Bytes::new(alloc);
-    for words in [header.as_slice(), code, symbols.as_slice()] {
-        append(&mut bytes, words)?;
-    }
+    append(&mut bytes, HEADER)?;
+    append(&mut bytes, code)?;
+    append(&mut bytes, SYMBOLS)?;
     bytes.append(b"\0xdp\0.symtab\0.strtab\0")?;
     bytes.append(&[name, 0, 0])?;
-    for words in [[0; 8], code_section, symbol_section, string_section] {
-        append(&mut bytes, words.as_slice())?;
+    for words in SECTIONS {
+        append(&mut bytes, words)?;
     }
     Ok(bytes)
 }
@@ -158,12 +155,14 @@ fn command(alloc: Global, asked: Asked) -> Result<Command, OutOfMemory> {
 }
 
 /// The number of the publication that a command makes, or why it is refused.
+type Given = Result<u32, Reason>;
+
 fn step(
     alloc: Global,
     state: &mut State,
     library: &Library,
     asked: Asked,
-) -> Result<Result<u32, Reason>, OutOfMemory>
+) -> Result<Given, OutOfMemory>
     requires { IsSound library.now }
 {
     let command = command(alloc, asked)?;
@@ -188,121 +187,155 @@ const B: Asked = Asked::Load {
     mask: None,
 };
 
-#[test]
-fn refuses_an_eleventh_member(rt: HostRuntime) -> Result<(), Fail> {
-    let objects = [object(rt.alloc(), b'a', PASS)?];
-    let library = library(rt.alloc(), &objects)?;
-    let mut state = State::new(rt.alloc())?;
-    for number in 1..=10 {
-        let given = step(rt.alloc(), &mut state, &library, A)?;
-        assert_eq!(rt; given, Ok(number));
+/// Objects with programs of these names that pass each packet; 0 stands for an empty file.
+fn objects(alloc: Global, names: &[u8]) -> Result<Vec<Bytes>, OutOfMemory> {
+    let mut objects = Vec::new(alloc);
+    for name in names {
+        objects.push(match *name {
+            0 => Bytes::new(alloc),
+            name => object(alloc, name, &PASS)?,
+        })?;
     }
-    for (asked, want) in [
-        (A, Err(Reason::ChainFull)),
-        (Asked::Unload(Some(10)), Ok(11)),
-        (A, Ok(12)),
-    ] {
-        let given = step(rt.alloc(), &mut state, &library, asked)?;
-        assert_eq!(rt; given, want);
-    }
-    Ok(())
+    Ok(objects)
 }
 
-#[test]
-fn answers_by_mode_and_id(rt: HostRuntime) -> Result<(), Fail> {
-    let objects = [object(rt.alloc(), b'a', PASS)?, Bytes::new(rt.alloc())];
-    let library = library(rt.alloc(), &objects)?;
-    let mut state = State::new(rt.alloc())?;
-    for (asked, want) in [
-        (A, Ok(1)),
-        (Asked::FilterLoad(Mode::Skb), Err(Reason::ModeDiffers)),
-        (Asked::Unload(Some(2)), Err(Reason::NoSuchId)),
-        (Asked::Unload(None), Ok(2)),
-        (Asked::Unload(None), Err(Reason::NothingLoaded)),
-    ] {
-        let given = step(rt.alloc(), &mut state, &library, asked)?;
-        assert_eq!(rt; given, want);
+/// What comes of commands over objects with these names, and then the numbers of the members.
+fn answers(
+    alloc: Global,
+    names: &[u8],
+    commands: &[Asked],
+) -> Result<(Vec<Given>, Vec<u32>), OutOfMemory> {
+    let library = library(alloc, objects(alloc, names)?.as_slice())?;
+    let mut state = State::new(alloc)?;
+    let mut answers = Vec::new(alloc);
+    for asked in commands {
+        answers.push(step(alloc, &mut state, &library, *asked)?)?;
     }
-    let given = step(rt.alloc(), &mut state, &library, B)?;
-    assert!(rt; matches!(given, Err(Reason::BadObject(_))), "an empty file");
-    Ok(())
+    Ok((answers, numbers(alloc, &state)?))
 }
 
-#[test]
-fn orders_members_by_their_names(rt: HostRuntime) -> Result<(), Fail> {
-    let objects = [
-        object(rt.alloc(), b'b', PASS)?,
-        object(rt.alloc(), b'a', PASS)?,
-    ];
-    let library = library(rt.alloc(), &objects)?;
-    let mut state = State::new(rt.alloc())?;
-    for (asked, number) in [(A, 1), (B, 2), (B, 3)] {
-        let given = step(rt.alloc(), &mut state, &library, asked)?;
-        assert_eq!(rt; given, Ok(number));
-    }
-    let mut numbers = Vec::new(rt.alloc());
+fn numbers(alloc: Global, state: &State) -> Result<Vec<u32>, OutOfMemory> {
+    let mut numbers = Vec::new(alloc);
     for member in state.chain(0).members() {
         numbers.push(member.number)?;
     }
-    assert_eq!(rt; numbers.as_slice(), [2, 3, 1].as_slice());
+    Ok(numbers)
+}
+
+/// Programs by name, commands, what comes of each, and the numbers of the members then.
+type Chain = (
+    &'static [u8],
+    &'static [Asked],
+    &'static [Given],
+    &'static [u32],
+);
+
+const CHAINS: [Chain; 3] = [
+    (
+        b"a",
+        &[A, A, A, A, A, A, A, A, A, A, A, Asked::Unload(Some(10)), A],
+        &[
+            Ok(1),
+            Ok(2),
+            Ok(3),
+            Ok(4),
+            Ok(5),
+            Ok(6),
+            Ok(7),
+            Ok(8),
+            Ok(9),
+            Ok(10),
+            Err(Reason::ChainFull),
+            Ok(11),
+            Ok(12),
+        ],
+        &[1, 2, 3, 4, 5, 6, 7, 8, 9, 12],
+    ),
+    (
+        b"a",
+        &[
+            A,
+            Asked::FilterLoad(Mode::Skb),
+            Asked::Unload(Some(2)),
+            Asked::Unload(None),
+            Asked::Unload(None),
+        ],
+        &[
+            Ok(1),
+            Err(Reason::ModeDiffers),
+            Err(Reason::NoSuchId),
+            Ok(2),
+            Err(Reason::NothingLoaded),
+        ],
+        &[],
+    ),
+    // members stand by their names, and then by their numbers
+    (b"ba", &[A, B, B], &[Ok(1), Ok(2), Ok(3)], &[2, 3, 1]),
+];
+
+#[test]
+fn answers_by_chain(rt: HostRuntime) -> Result<(), Fail> {
+    for (names, commands, want, members) in CHAINS {
+        let (given, numbers) = answers(rt.alloc(), names, commands)?;
+        assert_eq!(rt; given.as_slice(), want);
+        assert_eq!(rt; numbers.as_slice(), members);
+    }
     Ok(())
 }
 
-/// Why the first program ended so, and the first byte that was kept as the packet came to it and as it left.
-fn sides(trip: &Traversal) -> Option<(Cause, u8, u8)> {
-    let visit = trip.visits.as_slice().first()?;
-    Some((visit.cause, first(&visit.entry)?, first(&visit.exit)?))
+#[test]
+fn refuses_an_empty_file(rt: HostRuntime) -> Result<(), Fail> {
+    let (given, _) = answers(rt.alloc(), b"a\0", &[B])?;
+    let refused = matches!(given.as_slice().first(), Some(Err(Reason::BadObject(_))));
+    assert!(rt; refused);
+    Ok(())
 }
 
-fn first(kept: &KeptFrame) -> Option<u8> {
-    kept.get()?.kept.as_slice().first().copied()
-}
-
-/// The verdict on a packet that goes through one program, the program's cause, and the frame's first byte before it, behind
-/// it and at the end.
-fn carried(
-    alloc: Global,
-    code: &[u64],
-    mask: Option<u8>,
-) -> Result<Option<(Action, Cause, [u8; 3])>, OutOfMemory>
-    requires { length code.now ≤ 100 }
-{
+/// How a packet goes through one program.
+fn carried(alloc: Global, code: &Code, mask: Option<u8>) -> Result<Option<Journey>, OutOfMemory> {
     let objects = [object(alloc, b'p', code)?];
     let library = library(alloc, &objects)?;
+    let state = dumping(alloc, &library, mask)?;
+    told(alloc, &gone(alloc, &state, &library, 0, &FRAME)?)
+}
+
+/// A state with the first object's program, and a dump that is on.
+fn dumping(alloc: Global, library: &Library, mask: Option<u8>) -> Result<State, OutOfMemory>
+    requires { IsSound library.now }
+{
     let mut state = State::new(alloc)?;
     let load = Asked::Load { object: 0, mask };
-    let _ = step(alloc, &mut state, &library, load)?;
+    let _ = step(alloc, &mut state, library, load)?;
     state.absorb(&Change::DumpOn {
         interface: 0,
         setting: 0,
     });
-    let mut own = Own::new(alloc, 0, 0, 0)?;
-    own.prepare(&state, &library)?;
-    let packet = Packet {
-        id: 0,
-        timestamp: 0,
-        frame: text(alloc, &FRAME)?,
-    };
-    traverse(&state, &library, &mut own, &packet);
-    let trip = own.trip(alloc)?;
-    let (Some((cause, entry, exit)), Some(last)) = (sides(&trip), own.frame().first()) else {
-        return Ok(None);
-    };
-    Ok(Some((own.verdict(), cause, [entry, exit, *last])))
+    Ok(state)
 }
+
+/// A program, its mask, the verdict, the program's cause, and the frame's first byte behind it.
+const RUNS: [(Code, Option<u8>, Action, Cause, u8); 5] = [
+    (PASS, None, Action::Pass, Cause::Exit, 2),
+    (DROP, None, Action::Drop, Cause::Exit, 2),
+    (DROP, Some(2), Action::Pass, Cause::Exit, 2),
+    (WRITES_PAST, None, Action::Aborted, Cause::Fault, 255),
+    (WRITES_PAST, Some(1), Action::Pass, Cause::Fault, 255),
+];
 
 #[test]
 fn carries_a_packet_through_a_program(rt: HostRuntime) -> Result<(), Fail> {
-    // the code, its mask, the verdict, the cause, and the frame's first byte behind it
-    for (code, mask, verdict, cause, first) in [
-        (PASS, None, Action::Pass, Cause::Exit, 2),
-        (DROP, None, Action::Drop, Cause::Exit, 2),
-        (DROP, Some(2), Action::Pass, Cause::Exit, 2),
-        (WRITES_PAST, None, Action::Aborted, Cause::Fault, 255),
-        (WRITES_PAST, Some(1), Action::Pass, Cause::Fault, 255),
-    ] {
-        let given = carried(rt.alloc(), code, mask)?;
-        assert_eq!(rt; given, Some((verdict, cause, [2, first, first])));
+    for (code, mask, verdict, cause, first) in RUNS {
+        let way = carried(rt.alloc(), &code, mask)?.ok_or("no way")?;
+        let (_, _, seen, _, _) = way.seen;
+        assert_eq!(rt; (way.verdict, seen), (verdict, cause));
+        assert_eq!(rt;
+            (way.entry, way.exit, way.first),
+            (
+                Some((14, 1, Some(2))),
+                Some((14, 1, Some(first))),
+                Some(first)
+            )
+        );
     }
     Ok(())
 }

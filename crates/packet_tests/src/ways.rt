@@ -1,14 +1,14 @@
-ghost use Rattle.std.specs.Prelude.{◌≡◌, IfOk};
+ghost use Rattle.std.specs.Prelude.{IfOk};
 ghost use Rattle.xdp_state.specs.Library.{IsSound};
 
+use crate::journey::{Journey, Kept, gone, told};
 use bpf_machine::Cause;
 use filter_rules::{Policy, RuleKey, features};
 use lists::{Bytes, OutOfMemory};
 use std::alloc::Global;
 use std::test::Fail;
 use xdp_state::{
-    Change, DumpList, DumpSetting, InterfaceList, KeptFrame, Kind, Library, Mode, NameList, Own,
-    Packet, State, Visit, traverse,
+    Change, DumpList, DumpSetting, InterfaceList, Kind, Library, Mode, NameList, State,
 };
 use xio::Action;
 
@@ -23,7 +23,7 @@ const FILTER: &[&[u8]] = &[b"a", b"xdp_filter"];
 const OTHERS: &[&[u8]] = &[b"xdp_filte"];
 
 /// A frame's length, and how much of it is kept.
-type Kept = Option<(u32, usize)>;
+type Sizes = Option<(u32, usize)>;
 
 /// The last byte of the target, the frame's type, and what becomes of the frame; in IPv4's header it ends too early.
 const VERDICTS: [(u8, [u8; 2], Action, Option<u32>); 3] = [
@@ -33,7 +33,7 @@ const VERDICTS: [(u8, [u8; 2], Action, Option<u32>); 3] = [
 ];
 
 /// The setting that the library has as 0, the one that is on, and what is kept as a packet enters and as it leaves.
-const KEPT: [(Asked, u32, Kept, Kept); 7] = [
+const KEPT: [(Asked, u32, Sizes, Sizes); 7] = [
     ((&[], true, false, 262_144), 0, Some((14, 14)), None),
     ((&[], false, true, 10), 0, None, Some((14, 10))),
     ((FILTER, true, true, 1), 0, Some((14, 1)), Some((14, 1))),
@@ -85,69 +85,16 @@ fn dumping(alloc: Global, asked: Asked) -> Result<Library, OutOfMemory>
     Ok(Library::new(alloc, InterfaceList::new(alloc), dumps))
 }
 
-fn packet(alloc: Global, bytes: &[u8; 14]) -> Result<Packet, OutOfMemory>
-    ensures { IfOk result (λ packet. packet.frame ≡ bytes.now) }
-{
-    let mut frame = Bytes::new(alloc);
-    frame.append(bytes)?;
-    Ok(Packet {
-        id: 0,
-        timestamp: 0,
-        frame,
-    })
-}
-
-/// What the first member made of a packet, and what was kept as it came to it and as it left.
-#[derive(Clone, Copy)]
-struct Shown {
-    visit: (u32, Action, Cause, u32, Option<u32>),
-    entry: Kept,
-    exit: Kept,
-}
-
-fn seen_of(visit: &Visit) -> Shown {
-    Shown {
-        visit: (
-            visit.number,
-            visit.action,
-            visit.cause,
-            visit.target,
-            visit.rule,
-        ),
-        entry: sizes(&visit.entry),
-        exit: sizes(&visit.exit),
-    }
-}
-
-fn sizes(kept: &KeptFrame) -> Kept {
-    let kept = kept.get()?;
-    Some((kept.length, kept.kept.as_slice().len()))
-}
-
-/// What a packet's way shows, where all that tells of it says that the first visit decides, and that the frame is the same.
+/// What a packet's way through a filter of interface 3 shows.
 fn way(
     alloc: Global,
     state: &State,
     library: &Library,
     frame: &[u8; 14],
-) -> Result<Option<Shown>, OutOfMemory>
+) -> Result<Option<Journey>, OutOfMemory>
     requires { IsSound library.now }
 {
-    let mut own = Own::new(alloc, 0, 3, 0)?;
-    own.prepare(state, library)?;
-    traverse(state, library, &mut own, &packet(alloc, frame)?);
-    let trip = own.trip(alloc)?;
-    let Some(visit) = trip.visits.as_slice().first() else {
-        return Ok(None);
-    };
-    let decides = own.verdict() == visit.action && own.target() == visit.target;
-    let alike = trip.verdict == own.verdict() && trip.target == own.target();
-    let same = own.frame() == frame.as_slice() && trip.frame.as_slice() == frame.as_slice();
-    if decides && alike && same {
-        Ok(Some(seen_of(visit)))
-    } else {
-        Ok(None)
-    }
+    told(alloc, &gone(alloc, state, library, 3, frame)?)
 }
 
 /// A frame from and to addresses that end so, of a type.
@@ -161,10 +108,18 @@ fn drops_the_frame_that_a_rule_names(rt: HostRuntime) -> Result<(), Fail> {
     let library = dumping(rt.alloc(), NOTHING)?;
     for (last, kind, action, rule) in VERDICTS {
         let shown = way(rt.alloc(), &state, &library, &frame(last, kind))?.ok_or("no way")?;
-        assert_eq!(rt; shown.visit, (1, action, Cause::Exit, 0, rule));
+        assert_eq!(rt;
+            (shown.verdict, shown.seen),
+            (action, (1, action, Cause::Exit, 0, rule))
+        );
         assert!(rt; shown.entry.is_none() && shown.exit.is_none());
     }
     Ok(())
+}
+
+fn sizes(kept: Kept) -> Sizes {
+    let (length, kept, _) = kept?;
+    Some((length, kept))
 }
 
 #[test]
@@ -179,7 +134,7 @@ fn keeps_the_frames_that_a_dump_asks_for(rt: HostRuntime) -> Result<(), Fail> {
         });
         let frame = frame(3, [0x88, 0xB5]);
         let shown = way(rt.alloc(), &state, &library, &frame)?.ok_or("no way")?;
-        assert_eq!(rt; (shown.entry, shown.exit), (entry, exit));
+        assert_eq!(rt; (sizes(shown.entry), sizes(shown.exit)), (entry, exit));
     }
     Ok(())
 }
