@@ -3,13 +3,13 @@ use Rattle.std.specs.Prelude.{ℕ, Bool, true, false, ◌==◌, ◌&&◌, List, 
 use Rattle.std.specs.Bool.{beq}
 use Rattle.std.specs.Str.{bytes_eq}
 use Rattle.dump_capture.specs.declared.key.Key.{Key}
-use Rattle.dump_capture.specs.declared.point.Point.{Point}
+use Rattle.dump_capture.specs.Point.{PlainPoint}
 
-abbrev pub key_of : Point → Key
+abbrev pub key_of : PlainPoint → Key
 key_of point = record { interface = point.interface; name = point.name; exit = point.exit; snap = point.snap }
 
 -- the interface block is that of the point
-unfoldable pub is_key_of : Point → Key → Bool
+unfoldable pub is_key_of : PlainPoint → Key → Bool
 is_key_of point key =
     (key.snap == point.snap)
     && beq key.exit point.exit
@@ -21,5 +21,5 @@ side_text true = codes "exit"
 side_text false = codes "entry"
 
 -- the name of the interface block: the interface, the program, and on which side of it
-unfoldable pub if_name : Point → List ℕ
+unfoldable pub if_name : PlainPoint → List ℕ
 if_name point = point.interface ++ codes ":" ++ point.name ++ codes "()@" ++ side_text point.exit
