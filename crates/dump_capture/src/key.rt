@@ -1,5 +1,6 @@
-ghost use Rattle.std.specs.Prelude.{◌≡◌, ◌<◌, IfOk, position};
+ghost use Rattle.std.specs.Prelude.{◌≡◌, ◌<◌, IfOk};
 ghost use Rattle.dump_capture.specs.Key.{is_key_of, key_of};
+ghost use Rattle.dump_capture.specs.Keys.{has_key, number_of};
 ghost use Rattle.dump_capture.specs.Point.{plain_of};
 
 use crate::point::Point;
@@ -44,9 +45,17 @@ fn is_key_of(point: &Point<'_>, key: &Key) -> bool
         && key.name.as_slice() == point.name
 }
 
+/// Whether the key of a point is among these.
+#[tactic(auto, unfolding(crate::specs::Keys::has_key))]
+pub(crate) fn has_key(keys: &[Key], point: &Point<'_>) -> bool
+    ensures { result ≡ has_key keys.now (plain_of point.now) }
+{
+    keys.iter().any(|key| is_key_of(point, key))
+}
+
 /// The place of a point's key.
 pub(crate) fn place_of(keys: &[Key], point: &Point<'_>) -> Option<usize>
-    ensures { result ≡ position (is_key_of (plain_of point.now)) keys.now }
+    ensures { result ≡ number_of keys.now (plain_of point.now) }
 {
     keys.iter().position(|key| is_key_of(point, key))
 }

@@ -2,7 +2,7 @@ ghost use Rattle.std.specs.Prelude.{◌≡◌, ◌-◌, ◌<◌, [], not, IsTrue
 ghost use Rattle.dump_capture.specs.Keys.{is_known, number_of, shown, with_key};
 ghost use Rattle.dump_capture.specs.Point.{plain_of};
 
-use crate::key::{Key, key_of, place_of};
+use crate::key::{Key, has_key, key_of, place_of};
 use crate::point::Point;
 use lists::OutOfMemory;
 use std::alloc::Global;
@@ -61,11 +61,10 @@ impl Keys {
     }
 
     /// Whether the key of a point is there.
-    #[tactic(auto, unfolding(crate::specs::Keys::is_known))]
     pub(crate) fn is_known(&self, point: &Point<'_>) -> bool
         ensures { result ≡ is_known self.now (plain_of point.now) }
     {
-        place_of(&self.written, point).is_some() || place_of(&self.waiting, point).is_some()
+        has_key(&self.written, point) || has_key(&self.waiting, point)
     }
 
     /// Makes the key of a point, where it isn't there, and says whether it did.

@@ -54,7 +54,7 @@ fn data_print<P: Printer>(printer: &mut P, bytes: &[u8]) -> Result<(), P::End>
 }
 
 fn part_print<P: Printer>(printer: &mut P, part: Part<'_>) -> Result<(), P::End>
-    requires { IsTrue (is_short part.entry) }
+    requires { IsTrue (is_short part) }
     ensures { Prints P.tells P.counts (P.state printer.old) (P.state printer.new) (part_bytes part.entry) result }
 {
     match part {
@@ -72,8 +72,9 @@ fn part_print<P: Printer>(printer: &mut P, part: Part<'_>) -> Result<(), P::End>
 }
 
 /// The number of a part's bytes.
+#[tactic(auto, using(crate::proofs::Lengths::lengths))]
 fn part_size(part: Part<'_>) -> usize
-    requires { length (part_bytes part.entry) < 2 ^ 32 }
+    requires { length (part_bytes part) < 2 ^ 32 }
     ensures { result ≡ length (part_bytes part.entry) }
 {
     match part {

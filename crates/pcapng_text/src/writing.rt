@@ -145,7 +145,8 @@ pub fn packet(
     ensures bytes { IfOk result (λ bytes. bytes ≡ written.packet_bytes number timestamp original kept.now options.now) }
     ensures read_back { IfOk result (ReadsAsPacket number timestamp kept.now) }
 {
+    let told = *options;
     let mut bytes = Bytes::new(alloc);
-    packet_print(&mut bytes, number, timestamp, original, kept, options)?;
+    packet_print(&mut bytes, number, timestamp, original, kept, &told)?;
     Ok(bytes)
 }
