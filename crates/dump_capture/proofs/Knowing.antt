@@ -1,13 +1,14 @@
 -- The keys of a capture: what is known stays known, and is written by its first packet.
 use Rattle.std.proofs.Common.{◌≡◌, ℕ, ◌+◌, ◌<◌, ◌≤◌, suc, Bool, true, false, IsTrue, ◌&&◌, ◌||◌, List, [], ◌∷◌, ◌++◌, length, take, drop, get_or, Option, Some, None, refl, sym, ap, subst, ◌∙◌, append-nil, arith, ◌⊎◌, inl, inr}
-use Rattle.std.proofs.lemmas.Bool.{and_from, and_parts, cases_Bool, cases_lt, cond-true, eq-eqb, eqb-true, ltb-false, or_cases, or_left, or_right, true≢false}
+use Rattle.std.proofs.lemmas.Bool.{and_from, and_parts, cases_Bool, cases_lt, cond-false, cond-true, eq-eqb, eqb-true, ltb-false, or_cases, or_from, or_left, or_right, true≢false}
 use Rattle.std.proofs.lemmas.List.{drop_all, take_all}
 use Rattle.std.proofs.lemmas.List.Folds.{list_any-append, list_any_none}
+use Rattle.std.proofs.lemmas.List.Quantifiers.{position-Some}
 use Rattle.std.proofs.lemmas.List.Sums.{fails_before_first, passes_at_first, split_at_first}
 use Rattle.std.proofs.lemmas.Slice.Eq.{bytes_eq-Decides}
-use Rattle.std.specs.Prelude.{All, is_some, nat_lt, position}
+use Rattle.std.specs.Prelude.{All, is_some, nat_lt, position, unwrap_or}
 use Rattle.std.specs.Bool.{beq}
-use Rattle.std.specs.List.{list_any, position_or_len}
+use Rattle.std.specs.List.{list_any, position_or_len, remove}
 use Rattle.std.specs.Str.{bytes_eq}
 use Rattle.dump_capture.specs.Key.{is_key_of, key_of}
 use Rattle.dump_capture.specs.Keys.{Keys, has_key, is_known, number_of, shown, shown_at, with_key, without}
@@ -68,20 +69,20 @@ without-key : (point other : PlainPoint) (keys : List Key) → has_key keys othe
 unfolding has_key without
 without-key point other keys has = elim (cases_lt (position_or_len (is_key_of point) keys) (length keys)) [
   | inl there ↦
-    let place = position_or_len (is_key_of point) keys in
-    let key = get_or keys place (key_of point) in
-    let next : place + 1 ≡ suc place = omega arith in
-    let split = split_at_first (is_key_of point) keys (key_of point) there in
-    let same : key ≡ key_of point = key-is point key (passes_at_first (is_key_of point) keys (key_of point) there) in
-    elim (any-split (is_key_of other) (take place keys) key (drop (place + 1) keys) (ap (list_any (is_key_of other)) (sym split) ∙ has)) [
-      | inl left ↦ inl (ap (λ n. list_any (is_key_of other) (take place keys ++ drop n keys)) (sym next) ∙ left)
-      | inr own ↦ inr (ap (is_key_of other) (sym same) ∙ own)
-    ]
+      let place = position_or_len (is_key_of point) keys in
+      let key = get_or keys place (key_of point) in
+      let next : place + 1 ≡ suc place = omega arith in
+      let split = split_at_first (is_key_of point) keys (key_of point) there in
+      let same : key ≡ key_of point = key-is point key (passes_at_first (is_key_of point) keys (key_of point) there) in
+      elim (any-split (is_key_of other) (take place keys) key (drop (place + 1) keys) (ap (list_any (is_key_of other)) (sym split) ∙ has)) [
+        | inl left ↦ inl (ap (λ n. list_any (is_key_of other) (take place keys ++ drop n keys)) (sym next) ∙ left)
+        | inr own ↦ inr (ap (is_key_of other) (sym same) ∙ own)
+      ]
   | inr past ↦
-    let place = position_or_len (is_key_of point) keys in
-    let none : drop (suc place) keys ≡ [] = drop_all (suc place) keys (omega (arith, past)) in
-    let all : take place keys ≡ keys = take_all place keys past in
-    inl (ap (list_any (is_key_of other)) (ap (λ xs. take place keys ++ xs) none ∙ (append-nil (take place keys) ∙ all)) ∙ has)
+      let place = position_or_len (is_key_of point) keys in
+      let none : drop (suc place) keys ≡ [] = drop_all (suc place) keys (omega (arith, past)) in
+      let all : take place keys ≡ keys = take_all place keys past in
+      inl (ap (list_any (is_key_of other)) (ap (λ xs. take place keys ++ xs) none ∙ (append-nil (take place keys) ∙ all)) ∙ has)
 ]
 
 fails-all : (test : Key → Bool) (keys : List Key) → position test keys ≡ None → All (λ key. test key ≡ false) keys
@@ -119,7 +120,7 @@ with_key-keeps keys point other known = elim (cases_Bool (is_known keys point)) 
 -- making a key writes none
 pub with_key-written : (keys : Keys) (point : PlainPoint) → (with_key keys point).written ≡ keys.written
 unfolding with_key
-with_key-written keys point = elim (cases_Bool (is_known keys point)) [ | inl known ↦ rw known refl | inr unknown ↦ rw unknown refl ]
+with_key-written keys point = elim (cases_Bool (is_known keys point)) [ inl known ↦ rw known refl | inr unknown ↦ rw unknown refl ]
 
 -- the blocks of a point write its key, and nothing that was known is lost
 pub shown-written : (keys : Keys) (point : PlainPoint) → (shown keys point).written ≡ keys_after keys.written point
@@ -141,6 +142,28 @@ shown-keeps keys point other known = by_number (number_of keys.written point)
       | inr waiting ↦ elim (without-key point other keys.waiting waiting) [
         | inl left ↦ or_right (has_key (keys.written ++ key_of point ∷ []) other) _ left
         | inr own ↦ or_left (has_key (keys.written ++ key_of point ∷ []) other) _ (has-pushed keys.written (key_of point) other
-          ∙ or_right (has_key keys.written other) (is_key_of other (key_of point) || false) (or_left (is_key_of other (key_of point)) false own))
+            ∙ or_right (has_key keys.written other) (is_key_of other (key_of point) || false) (or_left (is_key_of other (key_of point)) false own))
       ]
     ]
+
+-- a key that waits has a place
+pub not_known : (keys : Keys) (point : PlainPoint) → number_of keys.written point ≡ None → number_of keys.waiting point ≡ None → IsTrue (is_known keys point) → ⊥
+not_known keys point unwritten not_waiting known =
+    true≢false (sym known ∙ or_from (has_key keys.written point) (has_key keys.waiting point) (number-none keys.written point unwritten) (number-none keys.waiting point not_waiting))
+
+-- the place that was found is the first one
+first-place : (test : Key → Bool) (keys : List Key) (place : ℕ) → position test keys ≡ Some place → position_or_len test keys ≡ place
+first-place test keys place found = elim (cases_Bool (nat_lt (position_or_len test keys) (length keys))) [
+  | inl there ↦ ap (λ o. unwrap_or o 0) (sym (cond-true (nat_lt (position_or_len test keys) (length keys)) (Some (position_or_len test keys)) None there) ∙ found)
+  | inr past ↦ absurd (true≢false (sym (ap is_some (sym (cond-false (nat_lt (position_or_len test keys) (length keys)) (Some (position_or_len test keys)) None past) ∙ found))))
+]
+
+-- the key of a point goes from those that wait to those that are written
+pub shown-moved : (keys : Keys) (point : PlainPoint) (place : ℕ) (key : Key) (written waiting : List Key) → number_of keys.written point ≡ None → number_of keys.waiting point ≡ Some place
+    → key ≡ get_or keys.waiting place key → written ≡ keys.written ++ key ∷ [] → waiting ≡ remove keys.waiting place
+    → (let moved : Keys = record { written = written; waiting = waiting } in moved) ≡ shown keys point
+unfolding shown without
+shown-moved keys point place key written waiting unwritten found is_key now left =
+    let passes : is_key_of point key ≡ true = ap (is_key_of point) is_key ∙ (position-Some (is_key_of point) keys.waiting place key found).1 in
+    let first = first-place (is_key_of point) keys.waiting place found in
+    rw (unwritten, first, now, left, key-is point key passes) refl

@@ -20,6 +20,10 @@ abbrev pub side_text : Bool → List ℕ
 side_text true = codes "exit"
 side_text false = codes "entry"
 
--- the name of the interface block: the interface, the program, and on which side of it
+-- the name of an interface block: the interface, the program, and on which side of it
+abbrev pub name_text : List ℕ → List ℕ → List ℕ → List ℕ
+name_text interface name side = interface ++ (codes ":" ++ (name ++ (codes "()@" ++ side)))
+
+-- that of a point
 unfoldable pub if_name : PlainPoint → List ℕ
-if_name point = point.interface ++ codes ":" ++ point.name ++ codes "()@" ++ side_text point.exit
+if_name point = name_text point.interface point.name (side_text point.exit)

@@ -1,9 +1,9 @@
 //! The blocks of a point.
 
 ghost use Rattle.std.specs.Prelude.{◌≡◌, ◌<◌, ◌^◌, ◌++◌, IfOk, length};
-ghost use Rattle.pcapng_text.specs.Written.{packet_size};
+ghost use Rattle.pcapng_text.specs.Written.{interface_bytes, packet_size};
 ghost use Rattle.dump_capture.specs.Capture.{interface_block, packet_block};
-ghost use Rattle.dump_capture.specs.Key.{if_name, side_text};
+ghost use Rattle.dump_capture.specs.Key.{if_name, name_text, side_text};
 ghost use Rattle.dump_capture.specs.Point.{plain_of};
 ghost use Rattle.xio.specs.Printing.{Prints};
 
@@ -19,6 +19,20 @@ fn side_text(exit: bool) -> &'static [u8]
     if exit { b"exit" } else { b"entry" }
 }
 
+/// Prints the block of an interface that is named so.
+fn named_block_print<'a, P: Printer>(
+    printer: &mut P,
+    interface: &'a [u8],
+    name: &'a [u8],
+    side: &'a [u8],
+    snap: u32,
+) -> Result<(), P::End>
+    requires { length (name_text interface.now name.now side.now) < 2 ^ 16 }
+    ensures { Prints P.tells P.counts (P.state printer.old) (P.state printer.new) (interface_bytes (name_text interface.now name.now side.now) snap) result }
+{
+    interface_print(printer, &[interface, b":", name, b"()@", side], snap)
+}
+
 /// Prints the interface block of a point.
 #[tactic(auto, unfolding(crate::specs::Key::if_name))]
 pub(crate) fn interface_block_print<P: Printer>(
@@ -29,8 +43,7 @@ pub(crate) fn interface_block_print<P: Printer>(
     ensures { Prints P.tells P.counts (P.state printer.old) (P.state printer.new) (interface_block (plain_of point.now)) result }
 {
     let side = side_text(point.exit);
-    let name = [point.interface, b":", point.name, b"()@", side];
-    interface_print(printer, &name, point.snap)
+    named_block_print(printer, point.interface, point.name, side, point.snap)
 }
 
 /// Prints the packet block of a point on the interface of a number.

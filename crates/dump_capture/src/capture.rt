@@ -107,12 +107,11 @@ fn put_first<K: Sink>(
             keys.show(point);
             Ok(())
         }
-        Err(end) => {
-            if made {
-                keys.forget();
-            }
+        Err(end) if made => {
+            keys.forget();
             Err(end)
         }
+        Err(end) => Err(end),
     }
 }
 
@@ -133,6 +132,46 @@ fn print_first<P: Printer>(
     first_blocks_print(printer, keys.count(), point)?;
     keys.show(point);
     Ok(())
+}
+
+/// Writes the blocks of a point.
+fn put_point<K: Sink>(
+    alloc: Global,
+    keys: &mut Keys,
+    point: &Point<'_>,
+    sink: &mut K,
+) -> Result<(), PutEnd>
+    requires name { length (if_name (plain_of point.now)) < 2 ^ 16 }
+    requires size { packet_size point.now.kept.now point.now.options < 2 ^ 32 }
+    ensures held { IsTrue K.tells → Puts (K.held sink.old) (K.held sink.new) result (blocks_of keys.old.written (plain_of point.now)) }
+    ensures within { StopsBetween 0 (length (blocks_of keys.old.written (plain_of point.now))) result }
+    ensures keys { keys.new ≡ (if is_ok result then shown keys.old (plain_of point.now) else keys.old) }
+    ensures same_flushed { IsTrue K.tells → K.flushed sink.new ≡ K.flushed sink.old }
+    ensures cause { HasPutCause (K.faults sink.old) (K.faults sink.new) result }
+    ensures same_setting { K.setting sink.new ≡ K.setting sink.old }
+{
+    match keys.number_of(point) {
+        Some(number) => put_packet(alloc, number, point, sink),
+        None => put_first(alloc, keys, point, sink),
+    }
+}
+
+/// Prints the blocks of a point.
+fn print_point<P: Printer>(
+    keys: &mut Keys,
+    point: &Point<'_>,
+    printer: &mut P,
+) -> Result<(), P::End>
+    requires known { IsTrue (is_known keys.old (plain_of point.now)) }
+    requires name { length (if_name (plain_of point.now)) < 2 ^ 16 }
+    requires size { packet_size point.now.kept.now point.now.options < 2 ^ 32 }
+    ensures prints { Prints P.tells P.counts (P.state printer.old) (P.state printer.new) (blocks_of keys.old.written (plain_of point.now)) result }
+    ensures keys { keys.new ≡ (if is_ok result then shown keys.old (plain_of point.now) else keys.old) }
+{
+    match keys.number_of(point) {
+        Some(number) => packet_block_print(printer, number, point),
+        None => print_first(keys, point, printer),
+    }
 }
 
 impl Capture {
@@ -171,10 +210,7 @@ impl Capture {
         ensures cause { HasPutCause (K.faults sink.old) (K.faults sink.new) result }
         ensures same_setting { K.setting sink.new ≡ K.setting sink.old }
     {
-        match self.keys.number_of(point) {
-            Some(number) => put_packet(self.alloc, number, point, sink),
-            None => put_first(self.alloc, &mut self.keys, point, sink),
-        }
+        put_point(self.alloc, &mut self.keys, point, sink)
     }
 
     /// Makes what the interface block of a point is remembered by, so that the point can be printed without memory.
@@ -202,9 +238,6 @@ impl Capture {
         ensures prints { Prints P.tells P.counts (P.state printer.old) (P.state printer.new) (blocks_of self.old.written (plain_of point.now)) result }
         ensures keys { self.new ≡ (if is_ok result then shown self.old (plain_of point.now) else self.old) }
     {
-        match self.keys.number_of(point) {
-            Some(number) => packet_block_print(printer, number, point),
-            None => print_first(&mut self.keys, point, printer),
-        }
+        print_point(&mut self.keys, point, printer)
     }
 }

@@ -98,6 +98,38 @@ pub fn interface(alloc: Global, name: &[u8], snap: u32) -> Result<Bytes, OutOfMe
     Ok(bytes)
 }
 
+fn enhanced_packet_print<P: Printer>(
+    printer: &mut P,
+    number: u32,
+    timestamp: u64,
+    original: u32,
+    kept: &[u8],
+    told: PacketOptions,
+) -> Result<(), P::End>
+    requires { written.packet_size kept.now told < 2 ^ 32 }
+    ensures prints { Prints P.tells P.counts (P.state printer.old) (P.state printer.new) (written.packet_bytes number timestamp original kept.now told) result }
+    ensures number { told.publication < 2 ^ 32 }
+{
+    let (upper, lower) = halves(timestamp);
+    block_print(
+        printer,
+        ENHANCED_PACKET,
+        &[
+            Part::U32(number),
+            Part::U32(upper),
+            Part::U32(lower),
+            Part::U32(kept.len() as u32),
+            Part::U32(original),
+            Part::Data(kept),
+            Part::Publications(told.publication),
+            Part::Identity(told.id),
+            Part::Queue(told.queue),
+            Part::Verdict(told.verdict),
+            Part::U32(END_OF_OPTIONS),
+        ],
+    )
+}
+
 /// Prints a packet of the interface of a number, with a time in nanoseconds. `original` is the packet's length, of
 /// which these bytes are kept.
 pub fn packet_print<P: Printer>(
@@ -111,24 +143,7 @@ pub fn packet_print<P: Printer>(
     requires { written.packet_size kept.now options.now < 2 ^ 32 }
     ensures { Prints P.tells P.counts (P.state printer.old) (P.state printer.new) (written.packet_bytes number timestamp original kept.now options.now) result }
 {
-    let (upper, lower) = halves(timestamp);
-    block_print(
-        printer,
-        ENHANCED_PACKET,
-        &[
-            Part::U32(number),
-            Part::U32(upper),
-            Part::U32(lower),
-            Part::U32(kept.len() as u32),
-            Part::U32(original),
-            Part::Data(kept),
-            Part::Publications(options.publication),
-            Part::Identity(options.id),
-            Part::Queue(options.queue),
-            Part::Verdict(options.verdict),
-            Part::U32(END_OF_OPTIONS),
-        ],
-    )
+    enhanced_packet_print(printer, number, timestamp, original, kept, *options)
 }
 
 /// A packet of the interface of a number, with a time in nanoseconds. `original` is the packet's length, of which
@@ -145,8 +160,7 @@ pub fn packet(
     ensures bytes { IfOk result (λ bytes. bytes ≡ written.packet_bytes number timestamp original kept.now options.now) }
     ensures read_back { IfOk result (ReadsAsPacket number timestamp kept.now) }
 {
-    let told = *options;
     let mut bytes = Bytes::new(alloc);
-    packet_print(&mut bytes, number, timestamp, original, kept, &told)?;
+    enhanced_packet_print(&mut bytes, number, timestamp, original, kept, *options)?;
     Ok(bytes)
 }
