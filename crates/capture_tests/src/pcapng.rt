@@ -118,69 +118,100 @@ impl Source for Drip {
     }
 }
 
+/// Damaged copies of SECTION, INTERFACE and two PACKET, whose blocks are at 0, 28, 48 and 96: the length, bytes that are
+/// changed, the packets before the bad block, its rule and its place.
+const DAMAGED: &[(usize, &[(usize, u8)], u32, Rule, u64)] = &[
+    (0, &[], 0, Rule::ShortRest, 0),
+    (107, &[], 1, Rule::ShortRest, 96),
+    (144, &[(0, 1)], 0, Rule::NoSection, 0),
+    (144, &[(8, 0x4e)], 0, Rule::BadMagic, 0),
+    (144, &[(52, 8)], 0, Rule::BadLength, 48),
+    (144, &[(52, 46)], 0, Rule::BadLength, 48),
+    (144, &[(55, 1)], 0, Rule::BadLength, 48),
+    (143, &[], 1, Rule::CutBlock, 96),
+    (144, &[(140, 44)], 1, Rule::LengthsDiffer, 96),
+    (144, &[(12, 2)], 0, Rule::BadSection, 0),
+    (144, &[(32, 16), (40, 16)], 0, Rule::ShortInterface, 28),
+    (144, &[(36, 101)], 0, Rule::LinkType, 28),
+    (144, &[(52, 28), (72, 28)], 0, Rule::ShortPacket, 48),
+    (144, &[(56, 1)], 0, Rule::NoInterface, 48),
+    (144, &[(68, 17)], 0, Rule::DataPastEnd, 48),
+];
+
 #[test]
 fn each_rule_on_a_damaged_copy(rt: HostRuntime) -> Result<(), Fail> {
-    // Blocks at 0, 28, 48 and 96.
     let whole = joined(rt.alloc(), &[SECTION, INTERFACE, PACKET, PACKET])?;
-    let rows: [(usize, [(usize, u8); 2], u32, Rule, u64); 15] = [
-        (0, [(0, 0x0a), (0, 0x0a)], 0, Rule::ShortRest, 0),
-        (107, [(0, 0x0a), (0, 0x0a)], 1, Rule::ShortRest, 96),
-        (144, [(0, 1), (0, 1)], 0, Rule::NoSection, 0),
-        (144, [(8, 0x4e), (0, 0x0a)], 0, Rule::BadMagic, 0),
-        (144, [(52, 8), (0, 0x0a)], 0, Rule::BadLength, 48),
-        (144, [(52, 46), (0, 0x0a)], 0, Rule::BadLength, 48),
-        (144, [(55, 1), (0, 0x0a)], 0, Rule::BadLength, 48),
-        (143, [(0, 0x0a), (0, 0x0a)], 1, Rule::CutBlock, 96),
-        (144, [(140, 44), (0, 0x0a)], 1, Rule::LengthsDiffer, 96),
-        (144, [(12, 2), (0, 0x0a)], 0, Rule::BadSection, 0),
-        (144, [(32, 16), (40, 16)], 0, Rule::ShortInterface, 28),
-        (144, [(36, 101), (0, 0x0a)], 0, Rule::LinkType, 28),
-        (144, [(52, 28), (72, 28)], 0, Rule::ShortPacket, 48),
-        (144, [(56, 1), (0, 0x0a)], 0, Rule::NoInterface, 48),
-        (144, [(68, 17), (0, 0x0a)], 0, Rule::DataPastEnd, 48),
-    ];
-    for (cut, changes, packets, rule, offset) in rows {
-        let seen = seen_of(rt.alloc(), whole.as_slice(), cut, &changes, 1000)?;
-        assert_eq!(rt; seen.0, packets);
-        assert_eq!(rt; seen.3, broken(rule, offset));
+    for (cut, changes, packets, rule, offset) in DAMAGED {
+        let seen = seen_of(rt.alloc(), whole.as_slice(), *cut, changes, 1000)?;
+        assert_eq!(rt; seen.0, *packets);
+        assert_eq!(rt; seen.3, broken(*rule, *offset));
     }
     Ok(())
 }
 
+/// Changed copies of SECTION, NAMED and PACKET, whose blocks are at 0, 28 and 80, and the options at 44, 64 and 72.
+const BAD_OPTIONS: &[(&[(usize, u8)], Rule, u64)] = &[
+    (&[(47, 1), (68, 0x89)], Rule::BadOption, 28),
+    (&[(66, 2), (68, 0x89)], Rule::BadOption, 28),
+    (&[(68, 0x89)], Rule::BinaryResolution, 28),
+    (&[(100, 13)], Rule::FrameLength, 80),
+    (&[(68, 0), (92, 16)], Rule::LateTimestamp, 80),
+    (&[(68, 8), (95, 128)], Rule::LateTimestamp, 80),
+];
+
 #[test]
 fn each_rule_on_options_and_times(rt: HostRuntime) -> Result<(), Fail> {
-    // Blocks at 0, 28 and 80; options at 44, 64 and 72.
     let whole = joined(rt.alloc(), &[SECTION, NAMED, PACKET])?;
-    let rows: [([(usize, u8); 2], Rule, u64); 6] = [
-        ([(47, 1), (68, 0x89)], Rule::BadOption, 28),
-        ([(66, 2), (68, 0x89)], Rule::BadOption, 28),
-        ([(68, 0x89), (0, 0x0a)], Rule::BinaryResolution, 28),
-        ([(100, 13), (0, 0x0a)], Rule::FrameLength, 80),
-        ([(68, 0), (92, 16)], Rule::LateTimestamp, 80),
-        ([(68, 8), (95, 128)], Rule::LateTimestamp, 80),
-    ];
-    for (changes, rule, offset) in rows {
-        let seen = seen_of(rt.alloc(), whole.as_slice(), 128, &changes, 1000)?;
-        assert_eq!(rt; seen, (0, 0, 0, broken(rule, offset)));
+    for (changes, rule, offset) in BAD_OPTIONS {
+        let seen = seen_of(rt.alloc(), whole.as_slice(), 128, changes, 1000)?;
+        assert_eq!(rt; seen, (0, 0, 0, broken(*rule, *offset)));
     }
     Ok(())
 }
+
+/// Copies of SECTION, INTERFACE and two PACKET: the length, a byte that is changed, the limit, the packets and the end.
+const LIMITED: &[(usize, (usize, u8), u64, u32, Option<BlockEnd>)] = &[
+    (144, (0, 0x0a), 144, 2, None),
+    (
+        144,
+        (0, 0x0a),
+        143,
+        1,
+        Some(BlockEnd::TooLarge { limit: 143 }),
+    ),
+    (
+        143,
+        (0, 0x0a),
+        143,
+        1,
+        Some(BlockEnd::TooLarge { limit: 143 }),
+    ),
+    (
+        144,
+        (100, 46),
+        143,
+        1,
+        Some(BlockEnd::BadCapture {
+            offset: 96,
+            rule: Rule::BadLength,
+        }),
+    ),
+    (
+        144,
+        (104, 1),
+        143,
+        1,
+        Some(BlockEnd::TooLarge { limit: 143 }),
+    ),
+];
 
 #[test]
 fn the_limit_stands_between_the_length_and_the_cut(rt: HostRuntime) -> Result<(), Fail> {
     let whole = joined(rt.alloc(), &[SECTION, INTERFACE, PACKET, PACKET])?;
-    let past = |limit| Some(BlockEnd::TooLarge { limit });
-    let rows: [(usize, (usize, u8), u64, u32, Option<BlockEnd>); 5] = [
-        (144, (0, 0x0a), 144, 2, None),
-        (144, (0, 0x0a), 143, 1, past(143)),
-        (143, (0, 0x0a), 143, 1, past(143)),
-        (144, (100, 46), 143, 1, broken(Rule::BadLength, 96)),
-        (144, (104, 1), 143, 1, past(143)),
-    ];
-    for (cut, change, limit, packets, end) in rows {
-        let seen = seen_of(rt.alloc(), whole.as_slice(), cut, &[change], limit)?;
-        assert_eq!(rt; seen.0, packets);
-        assert_eq!(rt; seen.3, end);
+    for (cut, change, limit, packets, end) in LIMITED {
+        let seen = seen_of(rt.alloc(), whole.as_slice(), *cut, &[*change], *limit)?;
+        assert_eq!(rt; seen.0, *packets);
+        assert_eq!(rt; seen.3, *end);
     }
     Ok(())
 }
@@ -199,22 +230,24 @@ fn blocks_of_both_orders_byte_by_byte(rt: HostRuntime) -> Result<(), Fail> {
     Ok(())
 }
 
+/// The time 2^32 + 5 in seconds over ten to a power, in nanoseconds.
+const UNITS: &[(u8, u64)] = &[
+    (9, 4_294_967_301),
+    (6, 4_294_967_301_000),
+    (0, 4_294_967_301_000_000_000),
+    (10, 429_496_730),
+    (28, 0),
+    (127, 0),
+];
+
 #[test]
 fn units_of_time(rt: HostRuntime) -> Result<(), Fail> {
-    // The unit at 68, the time 2^32 + 5 at 92 and 96.
+    // The unit is at 68, the time at 92 and 96.
     let whole = joined(rt.alloc(), &[SECTION, NAMED, PACKET])?;
-    let rows: [(u8, u64); 6] = [
-        (9, 4_294_967_301),
-        (6, 4_294_967_301_000),
-        (0, 4_294_967_301_000_000_000),
-        (10, 429_496_730),
-        (28, 0),
-        (127, 0),
-    ];
-    for (unit, nanoseconds) in rows {
-        let changes = [(68, unit), (92, 1), (96, 5)];
+    for (unit, nanoseconds) in UNITS {
+        let changes = [(68, *unit), (92, 1), (96, 5)];
         let seen = seen_of(rt.alloc(), whole.as_slice(), 128, &changes, 1000)?;
-        assert_eq!(rt; seen, (1, nanoseconds, 14, None));
+        assert_eq!(rt; seen, (1, *nanoseconds, 14, None));
     }
     Ok(())
 }

@@ -5,10 +5,10 @@ use Rattle.std.proofs.Math.Seq.{take-append-add}
 use Rattle.pcapng_text.proofs.ReadBack.{packet-fits}
 use Rattle.dump_capture.specs.declared.put_end.PutEnd.{PutEnd}
 use Rattle.dump_capture.specs.declared.put_end.PutEnd.TheVariants.{WriteFault, OutOfMemory}
-use Rattle.dump_capture.specs.Capture.{HasPutCause, Puts, StopsBetween, WritesBehind, blocks_at, blocks_of, interface_block, keys_after, keys_at, number_of, packet_block}
-use Rattle.dump_capture.specs.Key.{key_of}
+use Rattle.dump_capture.specs.Capture.{HasPutCause, Puts, StopsBetween, WritesBehind, blocks_at, blocks_of, interface_block, packet_block}
+use Rattle.dump_capture.specs.Keys.{Keys, number_of, shown, shown_at}
 use Rattle.dump_capture.specs.declared.key.Key.{Key}
-use Rattle.dump_capture.specs.declared.point.Point.{Point}
+use Rattle.dump_capture.specs.Point.{PlainPoint}
 use Rattle.xio.specs.Causes.{Rose}
 
 -- a fault in the first block
@@ -61,31 +61,22 @@ pub fault-cause : (before now written : ℕ) → before ≤ now → Rose before 
 fault-cause before now written later rose = record { later = later; failed = λ _ _. rose; same = λ none. absurd (none written refl) }
 
 -- the blocks of a point whose interface block is written, and of another one
-pub blocks-known : (keys : List Key) (point : Point) (number : ℕ) → number_of keys point ≡ Some number → blocks_of keys point ≡ packet_block number point
+pub blocks-known : (keys : List Key) (point : PlainPoint) (number : ℕ) → number_of keys point ≡ Some number → blocks_of keys point ≡ packet_block number point
 unfolding blocks_of
 blocks-known keys point number is = ap (blocks_at keys point) is
 
-pub blocks-new : (keys : List Key) (point : Point) → number_of keys point ≡ None → blocks_of keys point ≡ interface_block point ++ packet_block (length keys) point
+pub blocks-new : (keys : List Key) (point : PlainPoint) → number_of keys point ≡ None → blocks_of keys point ≡ interface_block point ++ packet_block (length keys) point
 unfolding blocks_of
 blocks-new keys point is = ap (blocks_at keys point) is
 
--- and the interface blocks behind them
-pub keys-known : (keys : List Key) (point : Point) (number : ℕ) → number_of keys point ≡ Some number → keys_after keys point ≡ keys
-unfolding keys_after
-keys-known keys point number is = ap (keys_at keys point) is
+pub shown-known : (keys : Keys) (point : PlainPoint) (number : ℕ) → number_of keys.written point ≡ Some number → shown keys point ≡ keys
+unfolding shown
+shown-known keys point number is = ap (shown_at keys point) is
 
-pub keys-new : (keys : List Key) (point : Point) → number_of keys point ≡ None → keys_after keys point ≡ keys ++ key_of point ∷ []
-unfolding keys_after
-keys-new keys point is = ap (keys_at keys point) is
-
--- a choice between what is the same, and between what is the same in turn
-pub chosen_same : (ok : Bool) (keys known : List Key) → known ≡ keys → keys ≡ if ok then known else keys
-chosen_same true keys known same = sym same
-chosen_same false keys known same = refl
-
-pub chosen_alike : (ok : Bool) (more more' keys keys' : List Key) → more ≡ more' → keys ≡ keys' → (if ok then more else keys) ≡ (if ok then more' else keys')
-chosen_alike true more more' keys keys' same_more same = same_more
-chosen_alike false more more' keys keys' same_more same = same
+-- where the blocks of a point leave the keys as they were, an error does too
+pub chosen-same : (ok : Bool) (keys known : Keys) → known ≡ keys → keys ≡ if ok then known else keys
+chosen-same true keys known same = sym same
+chosen-same false keys known same = refl
 
 -- a packet of few bytes has a block whose length fits
 pub ruleset fitting = (packet-fits)

@@ -1,45 +1,42 @@
 -- The blocks of a capture of points: an interface block stands right before the first packet that is on it.
-use Rattle.std.specs.Prelude.{◌≡◌, ◌≢◌, ℕ, ◌-◌, ◌<◌, ◌≤◌, List, [], ◌∷◌, ◌++◌, length, take, position, Option, Some, None, Result, Ok, Err}
+use Rattle.std.specs.Prelude.{◌≡◌, ◌≢◌, ℕ, ◌-◌, ◌<◌, ◌≤◌, List, [], ◌∷◌, ◌++◌, length, take, Option, Some, None, Result, Ok, Err}
 use Rattle.xio.specs.Causes.{Rose}
 use Rattle.pcapng_text.specs.Written.{interface_bytes, packet_bytes, section_bytes}
 use Rattle.dump_capture.specs.declared.key.Key.{Key}
-use Rattle.dump_capture.specs.declared.point.Point.{Point}
 use Rattle.dump_capture.specs.declared.put_end.PutEnd.{PutEnd}
 use Rattle.dump_capture.specs.declared.put_end.PutEnd.TheVariants.{WriteFault, OutOfMemory}
-use Rattle.dump_capture.specs.Key.{if_name, is_key_of, key_of}
+use Rattle.dump_capture.specs.Key.{if_name, key_of}
+use Rattle.dump_capture.specs.Keys.{number_of}
+use Rattle.dump_capture.specs.Point.{PlainPoint}
 
--- the number of the interface block of a point, where it is written
-abbrev pub number_of : List Key → Point → Option ℕ
-number_of keys point = position (is_key_of point) keys
-
-abbrev pub interface_block : Point → List ℕ
+abbrev pub interface_block : PlainPoint → List ℕ
 interface_block point = interface_bytes (if_name point) point.snap
 
-abbrev pub packet_block : ℕ → Point → List ℕ
+abbrev pub packet_block : ℕ → PlainPoint → List ℕ
 packet_block number point = packet_bytes number point.timestamp point.length point.kept point.options
 
-abbrev pub blocks_at : List Key → Point → Option ℕ → List ℕ
+abbrev pub blocks_at : List Key → PlainPoint → Option ℕ → List ℕ
 blocks_at keys point (Some number) = packet_block number point
 blocks_at keys point None = interface_block point ++ packet_block (length keys) point
 
 -- the blocks of a point, with these interface blocks before them
-unfoldable pub blocks_of : List Key → Point → List ℕ
+unfoldable pub blocks_of : List Key → PlainPoint → List ℕ
 blocks_of keys point = blocks_at keys point (number_of keys point)
 
-abbrev pub keys_at : List Key → Point → Option ℕ → List Key
+abbrev pub keys_at : List Key → PlainPoint → Option ℕ → List Key
 keys_at keys point (Some number) = keys
 keys_at keys point None = keys ++ key_of point ∷ []
 
 -- the interface blocks behind them
-unfoldable pub keys_after : List Key → Point → List Key
+unfoldable pub keys_after : List Key → PlainPoint → List Key
 keys_after keys point = keys_at keys point (number_of keys point)
 
-abbrev pub text_behind : List Key → List Point → List ℕ
+abbrev pub text_behind : List Key → List PlainPoint → List ℕ
 text_behind keys [] = []
 text_behind keys (point ∷ points) = blocks_of keys point ++ text_behind (keys_after keys point) points
 
 -- a whole capture
-abbrev pub capture_text : List Point → List ℕ
+abbrev pub capture_text : List PlainPoint → List ℕ
 capture_text points = section_bytes ++ text_behind [] points
 
 -- `Ok` put all of the blocks behind what was held, a fault the first `written` bytes of them, and want of memory nothing

@@ -1,2 +1,4 @@
+pub mod Point
 pub mod Key
+pub mod Keys
 pub mod Capture

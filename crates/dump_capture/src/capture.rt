@@ -1,36 +1,35 @@
-ghost use Rattle.std.specs.Prelude.{◌≡◌, ◌+◌, ◌<◌, ◌^◌, ◌++◌, [], ◌∷◌, if◌then◌else◌, is_ok, IsTrue, IfOk, length};
+ghost use Rattle.std.specs.Prelude.{◌≡◌, ◌+◌, ◌<◌, ◌^◌, ◌++◌, [], if◌then◌else◌, is_ok, IsTrue, IfOk, OnOk, OnErr, length, None};
 ghost use Rattle.pcapng_text.specs.Written.{packet_size, section_bytes};
-ghost use Rattle.dump_capture.specs.Capture.{blocks_of, interface_block, keys_after, packet_block, HasPutCause, Puts, StopsBetween, WritesBehind};
-ghost use Rattle.dump_capture.specs.Key.{if_name, key_of};
+ghost use Rattle.dump_capture.specs.Capture.{blocks_of, interface_block, packet_block, HasPutCause, Puts, StopsBetween, WritesBehind};
+ghost use Rattle.dump_capture.specs.Key.{if_name};
+ghost use Rattle.dump_capture.specs.Keys.{is_known, number_of, shown, with_key};
+ghost use Rattle.dump_capture.specs.Point.{plain_of};
+ghost use Rattle.xio.specs.Printing.{Prints};
 
-use crate::key::{Key, if_name, key_of, number_of};
+use crate::blocks::{first_blocks_print, interface_block, packet_block, packet_block_print};
+use crate::keys::Keys;
 use crate::point::Point;
 use crate::put_end::PutEnd;
-use lists::{Bytes, OutOfMemory};
-use pcapng_text::{interface, packet, section};
+use lists::OutOfMemory;
+use pcapng_text::section;
 use std::alloc::Global;
 use std::marker::Model;
-use xio::{Sink, write_all};
+use xio::{Printer, Sink, write_all};
 
-/// How many interface blocks there is room for at first.
-const ROOM: usize = 8;
-
-/// A capture that is written block by block. It knows which interface blocks it has written.
+/// A capture that is written block by block. It knows which interface blocks it has written, and the keys of those that
+/// it may write.
 #[derive(Debug, Drop)]
 pub struct Capture {
     alloc: Global,
-    keys: Vec<Key>,
+    keys: Keys,
 }
 
 impl Model for Capture {
-    ghost use Rattle.std.specs.Prelude.{◌^◌, ◌<◌, List, length};
-    ghost use Rattle.dump_capture.specs.declared.key.Key.{Key};
+    ghost use Rattle.dump_capture.specs.Keys.{Keys};
 
-    ghost Value = { List Key };
+    ghost Value = { Keys };
 
-    ghost view = { λ capture. capture.keys.items };
-
-    ghost invariant = { λ capture. length capture.keys.items < 2 ^ 32 };
+    ghost view = { λ capture. capture.keys };
 }
 
 /// Writes a block behind so many bytes that this call wrote before.
@@ -65,40 +64,16 @@ fn write_blocks<K: Sink>(sink: &mut K, first: &[u8], second: &[u8]) -> Result<()
     }
 }
 
-/// The interface block of a point.
-fn interface_block(alloc: Global, point: &Point) -> Result<Bytes, OutOfMemory>
-    requires { length (if_name point.now) < 2 ^ 16 }
-    ensures { IfOk result (λ block. block ≡ interface_block point.now) }
-{
-    let name = if_name(alloc, point)?;
-    interface(alloc, name.as_slice(), point.snap)
-}
-
-/// The packet block of a point on the interface of a number.
-fn packet_block(alloc: Global, number: u32, point: &Point) -> Result<Bytes, OutOfMemory>
-    requires { packet_size point.now.kept point.now.options < 2 ^ 32 }
-    ensures { IfOk result (λ block. block ≡ packet_block number point.now) }
-{
-    packet(
-        alloc,
-        number,
-        point.timestamp,
-        point.length,
-        point.kept.as_slice(),
-        &point.options,
-    )
-}
-
 /// Writes the packet of a point whose interface block is written.
 fn put_packet<K: Sink>(
     alloc: Global,
     number: u32,
-    point: &Point,
+    point: &Point<'_>,
     sink: &mut K,
 ) -> Result<(), PutEnd>
-    requires { packet_size point.now.kept point.now.options < 2 ^ 32 }
-    ensures held { IsTrue K.tells → Puts (K.held sink.old) (K.held sink.new) result (packet_block number point.now) }
-    ensures within { StopsBetween 0 (length (packet_block number point.now)) result }
+    requires { packet_size point.now.kept.now point.now.options < 2 ^ 32 }
+    ensures held { IsTrue K.tells → Puts (K.held sink.old) (K.held sink.new) result (packet_block number (plain_of point.now)) }
+    ensures within { StopsBetween 0 (length (packet_block number (plain_of point.now))) result }
     ensures same_flushed { IsTrue K.tells → K.flushed sink.new ≡ K.flushed sink.old }
     ensures cause { HasPutCause (K.faults sink.old) (K.faults sink.new) result }
     ensures same_setting { K.setting sink.new ≡ K.setting sink.old }
@@ -110,45 +85,103 @@ fn put_packet<K: Sink>(
 /// Writes the interface block of a point and its packet.
 fn put_first<K: Sink>(
     alloc: Global,
-    keys: &mut Vec<Key>,
-    point: &Point,
+    keys: &mut Keys,
+    point: &Point<'_>,
     sink: &mut K,
 ) -> Result<(), PutEnd>
-    requires few { length keys.old.items < 2 ^ 32 }
-    requires name { length (if_name point.now) < 2 ^ 16 }
-    requires size { packet_size point.now.kept point.now.options < 2 ^ 32 }
-    ensures held { IsTrue K.tells → Puts (K.held sink.old) (K.held sink.new) result (interface_block point.now ++ packet_block (length keys.old.items) point.now) }
-    ensures within { StopsBetween 0 (length (interface_block point.now ++ packet_block (length keys.old.items) point.now)) result }
-    ensures keys { keys.new.items ≡ (if is_ok result then keys.old.items ++ key_of point.now ∷ [] else keys.old.items) }
-    ensures few { length keys.new.items < 2 ^ 32 }
+    requires unwritten { number_of keys.old.written (plain_of point.now) ≡ None }
+    requires name { length (if_name (plain_of point.now)) < 2 ^ 16 }
+    requires size { packet_size point.now.kept.now point.now.options < 2 ^ 32 }
+    ensures held { IsTrue K.tells → Puts (K.held sink.old) (K.held sink.new) result (interface_block (plain_of point.now) ++ packet_block (length keys.old.written) (plain_of point.now)) }
+    ensures within { StopsBetween 0 (length (interface_block (plain_of point.now) ++ packet_block (length keys.old.written) (plain_of point.now))) result }
+    ensures keys { keys.new ≡ (if is_ok result then shown keys.old (plain_of point.now) else keys.old) }
     ensures same_flushed { IsTrue K.tells → K.flushed sink.new ≡ K.flushed sink.old }
     ensures cause { HasPutCause (K.faults sink.old) (K.faults sink.new) result }
     ensures same_setting { K.setting sink.new ≡ K.setting sink.old }
 {
-    if keys.len() == u32::MAX as usize {
-        return Err(PutEnd::OutOfMemory);
-    }
-    let key = key_of(alloc, point)?;
     let interface = interface_block(alloc, point)?;
-    let packet = packet_block(alloc, keys.len() as u32, point)?;
-    keys.reserve(1)?;
+    let packet = packet_block(alloc, keys.count(), point)?;
+    let made = keys.reserve(point)?;
     match write_blocks(sink, interface.as_slice(), packet.as_slice()) {
         Ok(()) => {
-            keys.push_reserved(key);
+            keys.show(point);
             Ok(())
         }
+        Err(end) if made => {
+            keys.forget();
+            Err(end)
+        }
         Err(end) => Err(end),
+    }
+}
+
+/// Prints the interface block of a point and its packet.
+fn print_first<P: Printer>(
+    keys: &mut Keys,
+    point: &Point<'_>,
+    printer: &mut P,
+) -> Result<(), P::End>
+    requires known { IsTrue (is_known keys.old (plain_of point.now)) }
+    requires unwritten { number_of keys.old.written (plain_of point.now) ≡ None }
+    requires name { length (if_name (plain_of point.now)) < 2 ^ 16 }
+    requires size { packet_size point.now.kept.now point.now.options < 2 ^ 32 }
+    ensures prints { Prints P.tells P.counts (P.state printer.old) (P.state printer.new)
+        (interface_block (plain_of point.now) ++ packet_block (length keys.old.written) (plain_of point.now)) result }
+    ensures keys { keys.new ≡ (if is_ok result then shown keys.old (plain_of point.now) else keys.old) }
+{
+    first_blocks_print(printer, keys.count(), point)?;
+    keys.show(point);
+    Ok(())
+}
+
+/// Writes the blocks of a point.
+fn put_point<K: Sink>(
+    alloc: Global,
+    keys: &mut Keys,
+    point: &Point<'_>,
+    sink: &mut K,
+) -> Result<(), PutEnd>
+    requires name { length (if_name (plain_of point.now)) < 2 ^ 16 }
+    requires size { packet_size point.now.kept.now point.now.options < 2 ^ 32 }
+    ensures held { IsTrue K.tells → Puts (K.held sink.old) (K.held sink.new) result (blocks_of keys.old.written (plain_of point.now)) }
+    ensures within { StopsBetween 0 (length (blocks_of keys.old.written (plain_of point.now))) result }
+    ensures keys { keys.new ≡ (if is_ok result then shown keys.old (plain_of point.now) else keys.old) }
+    ensures same_flushed { IsTrue K.tells → K.flushed sink.new ≡ K.flushed sink.old }
+    ensures cause { HasPutCause (K.faults sink.old) (K.faults sink.new) result }
+    ensures same_setting { K.setting sink.new ≡ K.setting sink.old }
+{
+    match keys.number_of(point) {
+        Some(number) => put_packet(alloc, number, point, sink),
+        None => put_first(alloc, keys, point, sink),
+    }
+}
+
+/// Prints the blocks of a point.
+fn print_point<P: Printer>(
+    keys: &mut Keys,
+    point: &Point<'_>,
+    printer: &mut P,
+) -> Result<(), P::End>
+    requires known { IsTrue (is_known keys.old (plain_of point.now)) }
+    requires name { length (if_name (plain_of point.now)) < 2 ^ 16 }
+    requires size { packet_size point.now.kept.now point.now.options < 2 ^ 32 }
+    ensures prints { Prints P.tells P.counts (P.state printer.old) (P.state printer.new) (blocks_of keys.old.written (plain_of point.now)) result }
+    ensures keys { keys.new ≡ (if is_ok result then shown keys.old (plain_of point.now) else keys.old) }
+{
+    match keys.number_of(point) {
+        Some(number) => packet_block_print(printer, number, point),
+        None => print_first(keys, point, printer),
     }
 }
 
 impl Capture {
     /// A capture without a block, with room for the first interfaces.
     pub fn new(alloc: Global) -> Result<Self, OutOfMemory>
-        ensures { IfOk result (λ capture. capture ≡ []) }
+        ensures { IfOk result (λ capture. capture ≡ record { written = []; waiting = [] }) }
     {
         Ok(Capture {
             alloc,
-            keys: Vec::with_capacity(alloc, ROOM)?,
+            keys: Keys::new(alloc)?,
         })
     }
 
@@ -167,19 +200,44 @@ impl Capture {
 
     /// Writes a packet, behind its interface block where that isn't written yet. After an error the capture is as
     /// before.
-    pub fn put<K: Sink>(&mut self, point: &Point, sink: &mut K) -> Result<(), PutEnd>
-        requires name { length (if_name point.now) < 2 ^ 16 }
-        requires size { packet_size point.now.kept point.now.options < 2 ^ 32 }
-        ensures held { IsTrue K.tells → Puts (K.held sink.old) (K.held sink.new) result (blocks_of self.old point.now) }
-        ensures within { StopsBetween 0 (length (blocks_of self.old point.now)) result }
-        ensures keys { self.new ≡ (if is_ok result then keys_after self.old point.now else self.old) }
+    pub fn put<K: Sink>(&mut self, point: &Point<'_>, sink: &mut K) -> Result<(), PutEnd>
+        requires name { length (if_name (plain_of point.now)) < 2 ^ 16 }
+        requires size { packet_size point.now.kept.now point.now.options < 2 ^ 32 }
+        ensures held { IsTrue K.tells → Puts (K.held sink.old) (K.held sink.new) result (blocks_of self.old.written (plain_of point.now)) }
+        ensures within { StopsBetween 0 (length (blocks_of self.old.written (plain_of point.now))) result }
+        ensures keys { self.new ≡ (if is_ok result then shown self.old (plain_of point.now) else self.old) }
         ensures same_flushed { IsTrue K.tells → K.flushed sink.new ≡ K.flushed sink.old }
         ensures cause { HasPutCause (K.faults sink.old) (K.faults sink.new) result }
         ensures same_setting { K.setting sink.new ≡ K.setting sink.old }
     {
-        match number_of(&self.keys, point) {
-            Some(number) => put_packet(self.alloc, number as u32, point, sink),
-            None => put_first(self.alloc, &mut self.keys, point, sink),
-        }
+        put_point(self.alloc, &mut self.keys, point, sink)
+    }
+
+    /// Makes what the interface block of a point is remembered by, so that the point can be printed without memory.
+    pub fn reserve(&mut self, point: &Point<'_>) -> Result<(), OutOfMemory>
+        ensures ok { OnOk result (self.new ≡ with_key self.old (plain_of point.now)) }
+        ensures err { OnErr result (self.new ≡ self.old) }
+    {
+        self.keys.reserve(point)?;
+        Ok(())
+    }
+
+    /// Whether the point can be printed without memory.
+    pub fn knows(&self, point: &Point<'_>) -> bool
+        ensures { result ≡ is_known self.now (plain_of point.now) }
+    {
+        self.keys.is_known(point)
+    }
+
+    /// Prints a packet, behind its interface block where that isn't printed yet. After an error the capture is as
+    /// before.
+    pub fn print<P: Printer>(&mut self, point: &Point<'_>, printer: &mut P) -> Result<(), P::End>
+        requires known { IsTrue (is_known self.old (plain_of point.now)) }
+        requires name { length (if_name (plain_of point.now)) < 2 ^ 16 }
+        requires size { packet_size point.now.kept.now point.now.options < 2 ^ 32 }
+        ensures prints { Prints P.tells P.counts (P.state printer.old) (P.state printer.new) (blocks_of self.old.written (plain_of point.now)) result }
+        ensures keys { self.new ≡ (if is_ok result then shown self.old (plain_of point.now) else self.old) }
+    {
+        print_point(&mut self.keys, point, printer)
     }
 }

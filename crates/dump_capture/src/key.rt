@@ -1,5 +1,7 @@
-ghost use Rattle.std.specs.Prelude.{◌≡◌, ◌<◌, IfOk, position};
-ghost use Rattle.dump_capture.specs.Key.{if_name, is_key_of, key_of};
+ghost use Rattle.std.specs.Prelude.{◌≡◌, ◌<◌, IfOk};
+ghost use Rattle.dump_capture.specs.Key.{is_key_of, key_of};
+ghost use Rattle.dump_capture.specs.Keys.{has_key, number_of};
+ghost use Rattle.dump_capture.specs.Point.{plain_of};
 
 use crate::point::Point;
 use lists::{Bytes, OutOfMemory};
@@ -22,44 +24,38 @@ fn copy_of(alloc: Global, bytes: &[u8]) -> Result<Bytes, OutOfMemory>
     Ok(copy)
 }
 
-pub(crate) fn key_of(alloc: Global, point: &Point) -> Result<Key, OutOfMemory>
-    ensures { IfOk result (λ key. key ≡ key_of point.now) }
+pub(crate) fn key_of(alloc: Global, point: &Point<'_>) -> Result<Key, OutOfMemory>
+    ensures { IfOk result (λ key. key ≡ key_of (plain_of point.now)) }
 {
     Ok(Key {
-        interface: copy_of(alloc, point.interface.as_slice())?,
-        name: copy_of(alloc, point.name.as_slice())?,
+        interface: copy_of(alloc, point.interface)?,
+        name: copy_of(alloc, point.name)?,
         exit: point.exit,
         snap: point.snap,
     })
 }
 
 #[tactic(auto, unfolding(crate::specs::Key::is_key_of))]
-fn is_key_of(point: &Point, key: &Key) -> bool
-    ensures { result ≡ is_key_of point.now key.now }
+fn is_key_of(point: &Point<'_>, key: &Key) -> bool
+    ensures { result ≡ is_key_of (plain_of point.now) key.now }
 {
     key.snap == point.snap
         && key.exit == point.exit
-        && key.interface.as_slice() == point.interface.as_slice()
-        && key.name.as_slice() == point.name.as_slice()
+        && key.interface.as_slice() == point.interface
+        && key.name.as_slice() == point.name
 }
 
-/// The number of the interface block of a point.
-pub(crate) fn number_of(keys: &[Key], point: &Point) -> Option<usize>
-    ensures { result ≡ position (is_key_of point.now) keys.now }
+/// Whether the key of a point is among these.
+#[tactic(auto, unfolding(crate::specs::Keys::has_key))]
+pub(crate) fn has_key(keys: &[Key], point: &Point<'_>) -> bool
+    ensures { result ≡ has_key keys.now (plain_of point.now) }
+{
+    keys.iter().any(|key| is_key_of(point, key))
+}
+
+/// The place of a point's key.
+pub(crate) fn place_of(keys: &[Key], point: &Point<'_>) -> Option<usize>
+    ensures { result ≡ number_of keys.now (plain_of point.now) }
 {
     keys.iter().position(|key| is_key_of(point, key))
-}
-
-/// The name of the interface block of a point.
-#[tactic(auto, unfolding(crate::specs::Key::if_name))]
-pub(crate) fn if_name(alloc: Global, point: &Point) -> Result<Bytes, OutOfMemory>
-    ensures { IfOk result (λ name. name ≡ if_name point.now) }
-{
-    let mut name = copy_of(alloc, point.interface.as_slice())?;
-    name.append(b":")?;
-    name.append(point.name.as_slice())?;
-    name.append(b"()@")?;
-    let side = if point.exit { "exit" } else { "entry" };
-    name.append(side.as_bytes())?;
-    Ok(name)
 }

@@ -1,8 +1,10 @@
 //! The capture that is written while programs run: each packet as it enters and leaves them.
 #![tactic(auto)]
 
+mod blocks;
 mod capture;
 mod key;
+mod keys;
 mod point;
 mod put_end;
 

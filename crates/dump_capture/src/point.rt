@@ -1,12 +1,11 @@
-use lists::Bytes;
 use pcapng_text::PacketOptions;
 
 /// A packet at one program: as it enters, or as it leaves.
-#[derive(Debug, Drop)]
-pub struct Point {
-    pub interface: Bytes,
+#[derive(Clone, Copy, Debug)]
+pub struct Point<'a> {
+    pub interface: &'a [u8],
     /// The program's name.
-    pub name: Bytes,
+    pub name: &'a [u8],
     /// Whether the packet leaves.
     pub exit: bool,
     /// The most bytes that are kept of a packet.
@@ -15,6 +14,6 @@ pub struct Point {
     pub timestamp: u64,
     /// The packet's length here, of which not all bytes may be kept.
     pub length: u32,
-    pub kept: Bytes,
+    pub kept: &'a [u8],
     pub options: PacketOptions,
 }

@@ -5,4 +5,6 @@ pub mod Steps
 pub mod Walk
 pub mod Next
 pub mod Lengths
+pub mod Joining
+pub mod Framing
 pub mod ReadBack

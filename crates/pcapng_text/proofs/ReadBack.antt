@@ -365,19 +365,3 @@ packet-read_back interface timestamp original kept told number_fits time_fits pu
     reading-gives limit before (bytes ++ rest) (behind_packet before (length bytes)) rest (taken_whole before.place bytes rest)
     (record { timestamp = timestamp; frame = kept; end = before.place + length bytes })
     (packet_step interface timestamp original kept told number_fits time_fits publication_fits is_packet.bounded limit before rest fits ∙ rw (brings, size) refl)
-
--- what holds of certain bytes holds of an answer that gives them
-pub of_these : {E : Type 0} (P : List ℕ → Type 0) (bytes : List ℕ) (result : Result (List ℕ) E) → IfOk result (λ given. given ≡ bytes) → P bytes → IfOk result P
-of_these P bytes (Ok given) same holds = subst P (sym same) holds
-of_these P bytes (Err e) same holds = tt
-
-pub packet_of_these : {E : Type 0} (interface timestamp original : ℕ) (kept : List ℕ) (told : PacketOptions) (result : Result (List ℕ) E) → interface < 2 ^ 32 → timestamp < 2 ^ 64 → OnOk result (told.publication < 2 ^ 32)
-    → IfOk result (λ given. given ≡ packet_bytes interface timestamp original kept told) → IfOk result (ReadsAsPacket interface timestamp kept)
-packet_of_these interface timestamp original kept told (Ok given) number_fits time_fits publication_fits same =
-    subst (ReadsAsPacket interface timestamp kept) (sym same) (packet-read_back interface timestamp original kept told number_fits time_fits publication_fits)
-packet_of_these interface timestamp original kept told (Err e) number_fits time_fits publication_fits same = tt
-
--- an answer of some bytes is one of the same bytes
-pub of_same : {E : Type 0} (given wanted : List ℕ) (result : Result (List ℕ) E) → IfOk result (λ bytes. bytes ≡ given) → given ≡ wanted → IfOk result (λ bytes. bytes ≡ wanted)
-of_same given wanted (Ok bytes) same is = same ∙ is
-of_same given wanted (Err e) same is = tt

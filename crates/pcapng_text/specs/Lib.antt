@@ -8,4 +8,5 @@ pub mod Section
 pub mod Buffer
 pub mod Reading
 pub mod Written
+pub mod Parts
 pub mod ReadBack

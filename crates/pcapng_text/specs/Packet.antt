@@ -1,5 +1,5 @@
 -- Packet blocks, enhanced and simple: pcapng, sections 4.3 and 4.4. A block is given whole.
-use Rattle.std.specs.Prelude.{ℕ, ◌+◌, ◌-◌, ◌*◌, ◌/◌, ◌^◌, Bool, ◌==◌, ◌&&◌, not, nat_lt, nat_le, min, is_none, List, [], ◌∷◌, length, slice_get, slice_range, Option, Some, None, if◌then◌else◌}
+use Rattle.std.specs.Prelude.{ℕ, ◌+◌, ◌-◌, ◌*◌, ◌/◌, ◌^◌, ◌≤◌, Bool, ◌==◌, ◌&&◌, not, nat_lt, nat_le, min, is_none, List, [], ◌∷◌, length, slice_get, slice_range, Option, Some, None, if◌then◌else◌}
 use Rattle.pcapng_text.specs.declared.endian.Endian.{Endian}
 use Rattle.pcapng_text.specs.declared.interface_block.Interface.{Interface}
 use Rattle.pcapng_text.specs.declared.packet_block.Claim.{Claim}
@@ -53,3 +53,8 @@ packet_rules interfaces block claim =
     ∷ (not (nat_le 14 claim.captured && nat_le claim.captured 15872), FrameLength)
     ∷ (not (nat_lt (time_of interfaces claim) (2 ^ 64)), LateTimestamp)
     ∷ []
+
+-- the lengths of the frames that are taken
+pub record IsFrameSize (size : ℕ) : Type 0 where
+  pub some : 14 ≤ size
+  pub bounded : size ≤ 15872

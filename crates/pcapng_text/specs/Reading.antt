@@ -20,6 +20,7 @@ use Rattle.pcapng_text.specs.declared.stop.Stop.{Stop}
 use Rattle.pcapng_text.specs.declared.stop.Stop.TheVariants as stop
 use Rattle.pcapng_text.specs.Rule.{first_broken}
 use Rattle.pcapng_text.specs.Start.{order_of, size_of, start_rules}
+use Rattle.pcapng_text.specs.Packet.{IsFrameSize}
 use Rattle.pcapng_text.specs.Section.{Outcome, Breaks, Passes, Brings, block_outcome}
 use Rattle.pcapng_text.specs.Buffer.{TakesFront}
 
@@ -197,6 +198,11 @@ abbrev pub IsFurther : Progress → Progress → Advance → Type 0
 IsFurther old new advance.End = Unit {0}
 IsFurther old new advance.Skipped = old.place < new.place
 IsFurther old new (advance.Packet _) = old.place < new.place
+
+-- a packet has one of the lengths that are taken
+abbrev pub HasFrameSize : Advance → Type 0
+HasFrameSize (advance.Packet packet) = IsFrameSize (length packet.frame)
+HasFrameSize _ = Unit {0}
 
 -- an answer is that of a block's first bytes; no start is answered at a fault
 abbrev pub Starts : ℕ → Progress → List ℕ → Result Start BlockEnd → Type 0

@@ -68,8 +68,11 @@ abbrev pub packet_fields : ℕ → ℕ → ℕ → ℕ → List ℕ
 packet_fields interface timestamp kept size = fields_of interface (timestamp / 2 ^ 32) (timestamp % 2 ^ 32) kept size
 
 -- epb_verdict of the kind Linux XDP action (2)
+abbrev pub action_option : Action → List ℕ
+action_option action = option_bytes 7 (2 ∷ u64_bytes (number action))
+
 abbrev pub verdict_option : Option Action → List ℕ
-verdict_option (Some action) = option_bytes 7 (2 ∷ u64_bytes (number action))
+verdict_option (Some action) = action_option action
 verdict_option None = []
 
 -- the number of publications, as a comment

@@ -1,8 +1,8 @@
 //! What is known of a section: its byte order and its interfaces so far.
 
-ghost use Rattle.std.specs.Prelude.{◌≡◌, ◌+◌, ◌%◌, ◌<◌, ◌≤◌, ◌^◌, ◌++◌, [], ◌∷◌, OnOk, length};
+ghost use Rattle.std.specs.Prelude.{◌≡◌, ◌+◌, ◌%◌, ◌<◌, ◌≤◌, ◌^◌, ◌++◌, [], ◌∷◌, IfOk, IfSome, length};
 ghost use Rattle.pcapng_text.specs.Section as section;
-ghost use Rattle.pcapng_text.specs.Packet.{enhanced_claim, simple_claim};
+ghost use Rattle.pcapng_text.specs.Packet.{enhanced_claim, simple_claim, IsFrameSize};
 ghost use Rattle.pcapng_text.specs.Rule.{first_broken, RefusesAs};
 
 use crate::endian::Endian;
@@ -42,7 +42,8 @@ fn take_packet(
 ) -> Result<Option<Incoming>, Refusal>
     requires long { claim.start + 4 ≤ length block.now }
     requires short { length block.now < 2 ^ 32 }
-    ensures { section.Answers (section.packet_outcome interfaces.now block.now claim) interfaces.now result }
+    ensures answer { section.Answers (section.packet_outcome interfaces.now block.now claim) interfaces.now result }
+    ensures sized { IfOk result (λ packet. IfSome packet (λ packet. IsFrameSize (length packet.frame))) }
 {
     match read_packet(interfaces, block, claim) {
         Err(rule) => Err(Refusal::Broken(rule)),
@@ -66,7 +67,8 @@ fn take_simple(
     block: &[u8],
 ) -> Result<Option<Incoming>, Refusal>
     requires { length block.now < 2 ^ 32 }
-    ensures { section.Answers (section.packet_outcome interfaces.now block.now (simple_claim endian interfaces.now block.now)) interfaces.now result }
+    ensures answer { section.Answers (section.packet_outcome interfaces.now block.now (simple_claim endian interfaces.now block.now)) interfaces.now result }
+    ensures sized { IfOk result (λ packet. IfSome packet (λ packet. IsFrameSize (length packet.frame))) }
 {
     if block.len() < 16 {
         return Err(Refusal::Broken(Rule::ShortPacket));
@@ -84,7 +86,8 @@ fn take_enhanced(
     block: &[u8],
 ) -> Result<Option<Incoming>, Refusal>
     requires { length block.now < 2 ^ 32 }
-    ensures { section.Answers (section.packet_outcome interfaces.now block.now (enhanced_claim endian block.now)) interfaces.now result }
+    ensures answer { section.Answers (section.packet_outcome interfaces.now block.now (enhanced_claim endian block.now)) interfaces.now result }
+    ensures sized { IfOk result (λ packet. IfSome packet (λ packet. IsFrameSize (length packet.frame))) }
 {
     if block.len() < 32 {
         return Err(Refusal::Broken(Rule::ShortPacket));
@@ -104,7 +107,8 @@ fn take_body(
     requires some { 12 ≤ length block.now }
     requires even { length block.now % 4 ≡ 0 }
     requires short { length block.now < 2 ^ 32 }
-    ensures { section.Answers (section.body_outcome endian interfaces.old block.now) interfaces.new result }
+    ensures answer { section.Answers (section.body_outcome endian interfaces.old block.now) interfaces.new result }
+    ensures sized { IfOk result (λ packet. IfSome packet (λ packet. IsFrameSize (length packet.frame))) }
 {
     match endian.u32_at(block, 0) {
         SECTION_HEADER => {
@@ -134,7 +138,8 @@ pub(crate) fn take_block(
     requires some { 12 ≤ length block.now }
     requires even { length block.now % 4 ≡ 0 }
     requires short { length block.now < 2 ^ 32 }
-    ensures { section.Answers (section.block_outcome endian interfaces.old block.now) interfaces.new result }
+    ensures answer { section.Answers (section.block_outcome endian interfaces.old block.now) interfaces.new result }
+    ensures sized { IfOk result (λ packet. IfSome packet (λ packet. IsFrameSize (length packet.frame))) }
 {
     if endian.u32_at(block, block.len() - 4) as usize != block.len() {
         return Err(Refusal::Broken(Rule::LengthsDiffer));

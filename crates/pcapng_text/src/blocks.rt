@@ -1,6 +1,7 @@
 ghost use Rattle.std.specs.Prelude.{◌≡◌, ◌+◌, ◌%◌, ◌^◌, ◌<◌, ◌≤◌, length, [], IsTrue, is_ok, IfOk, OnOk, IfSome, OnSome, Ok, Err, None, true};
 ghost use Rattle.pcapng_text.specs.declared.block_end.BlockEnd.TheVariants.{ReadFault};
-ghost use Rattle.pcapng_text.specs.Reading.{at_start, block_step, has_ended, reading, step, Finishes, HasBlockCause, IsFurther, NamesLimit, Reader, Reads, Starts, Steps, StopsBefore, StopsInBlock, TakesUpTo};
+ghost use Rattle.pcapng_text.specs.Packet.{IsFrameSize};
+ghost use Rattle.pcapng_text.specs.Reading.{at_start, block_step, has_ended, reading, step, Finishes, HasBlockCause, HasFrameSize, IsFurther, NamesLimit, Reader, Reads, Starts, Steps, StopsBefore, StopsInBlock, TakesUpTo};
 
 use crate::advance::Advance;
 use crate::block::take_block;
@@ -75,6 +76,7 @@ fn finish_block(
     requires size { length block.now ≤ start.size }
     requires some { 12 ≤ start.size }
     requires even { start.size % 4 ≡ 0 }
+    ensures sized { IfOk result HasFrameSize }
     ensures step { Finishes (block_step progress.old start.endian start.size block.now) progress.old.place progress.new result }
     ensures whole { OnOk result (length block.now ≡ start.size) }
     ensures place { OnOk result (progress.new.place ≡ progress.old.place + start.size) }
@@ -106,6 +108,7 @@ fn next_block<S: Source>(
     ensures end { IsTrue S.tells → result ≡ Ok Advance.End → S.rest source.new ≡ [] }
     ensures fault { IsTrue S.tells → result ≡ Err ReadFault → StopsInBlock progress.old (step limit progress.old (S.rest source.old)) (S.rest source.old) (S.rest source.new) }
     ensures further { IfOk result (λ advance. IsFurther progress.old progress.new advance) }
+    ensures sized { IfOk result HasFrameSize }
     ensures within { progress.new.place ≤ limit }
     ensures limit_named { NamesLimit limit result }
     ensures cause { HasBlockCause (S.faults source.old) (S.faults source.new) result }
@@ -140,6 +143,7 @@ fn next_packet<S: Source>(
     ensures end { IsTrue S.tells → result ≡ Ok None → S.rest source.new ≡ [] }
     ensures fault { IsTrue S.tells → result ≡ Err ReadFault → StopsBefore (reading limit progress.old (S.rest source.old)).packets progress.old (S.rest source.old) (S.rest source.new) }
     ensures further { IfOk result (λ packet. OnSome packet (progress.old.place < progress.new.place)) }
+    ensures sized { IfOk result (λ packet. IfSome packet (λ packet. IsFrameSize (length packet.frame))) }
     ensures within { progress.new.place ≤ limit }
     ensures limit_named { NamesLimit limit result }
     ensures cause { HasBlockCause (S.faults source.old) (S.faults source.new) result }
@@ -188,6 +192,7 @@ impl Blocks {
         ensures end { IsTrue S.tells → result ≡ Ok None → S.rest source.new ≡ [] }
         ensures fault { IsTrue S.tells → result ≡ Err ReadFault → StopsBefore (reading self.old.limit self.old.progress (S.rest source.old)).packets self.old.progress (S.rest source.old) (S.rest source.new) }
         ensures further { IfOk result (λ packet. OnSome packet (self.old.progress.place < self.new.progress.place)) }
+        ensures sized { IfOk result (λ packet. IfSome packet (λ packet. IsFrameSize (length packet.frame))) }
         ensures within { OnOk result (self.new.progress.place ≤ self.new.limit) }
         ensures live { self.new.is_live ≡ is_ok result }
         ensures same_limit { self.new.limit ≡ self.old.limit }

@@ -2,7 +2,7 @@
 
 ghost use Rattle.std.specs.Prelude.{◌≡◌, ◌+◌, ◌<◌, ◌≤◌, ◌^◌, nat_lt, is_some, IfSome, IfOk, length, slice_get};
 ghost use Rattle.std.specs.Option.{option_map};
-ghost use Rattle.pcapng_text.specs.Packet.{enhanced_claim, frame_of, nanoseconds, packet_rules, simple_claim, snapped, time_of};
+ghost use Rattle.pcapng_text.specs.Packet.{enhanced_claim, frame_of, IsFrameSize, nanoseconds, packet_rules, simple_claim, snapped, time_of};
 ghost use Rattle.pcapng_text.specs.Rule.{first_broken, RefusesAs};
 
 use crate::endian::Endian;
@@ -103,6 +103,7 @@ pub(crate) fn read_packet<'a>(
     ensures rules { RefusesAs result (first_broken (packet_rules interfaces.now block.now claim)) }
     ensures timestamp { IfOk result (λ packet. packet.timestamp ≡ time_of interfaces.now claim) }
     ensures frame { IfOk result (λ packet. packet.frame.now ≡ frame_of block.now claim) }
+    ensures sized { IfOk result (λ packet. IsFrameSize (length packet.frame.now)) }
 {
     let Some(interface) = interface_at(interfaces, claim.interface) else {
         return Err(Rule::NoInterface);
