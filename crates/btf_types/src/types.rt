@@ -1,4 +1,4 @@
-ghost use Rattle.std.specs.Prelude.{◌≡◌, ◌<◌, ◌≤◌, length, position, slice_get, ◌==◌, Some};
+ghost use Rattle.std.specs.Prelude.{◌≡◌, ◌<◌, ◌≤◌, length, position, slice_get, take, ◌==◌, Some};
 ghost use Rattle.std.specs.List.{before_first};
 ghost use Rattle.btf_types.specs.TypeTable.{is_section_named, name_at, section_vars, type_at, IsSound, PartFits, RowFits};
 
@@ -111,12 +111,23 @@ impl Types {
         up_to_zero(&self.strings.as_slice()[offset as usize..])
     }
 
+    /// The first bytes of the name at a place of the strings, at most so many. It costs no more for a longer name.
+    #[tactic(auto, using(crate::proofs::Names::front_at))]
+    pub fn name_front(&self, offset: u32, limit: usize) -> &[u8]
+        requires { offset < length self.now.strings }
+        ensures { result.now ≡ take limit (name_at self.now offset) }
+    {
+        let rest = &self.strings.as_slice()[offset as usize..];
+        up_to_zero(&rest[..rest.len().min(limit)])
+    }
+
     /// Whether a type is a section of variables of this name.
+    #[tactic(auto, using(crate::proofs::Names::front_is))]
     fn is_section_named(&self, row: &TypeRow, name: &[u8]) -> bool
         requires { row.now.name < length self.now.strings }
         ensures { result ≡ is_section_named self.now name.now row.now }
     {
-        row.kind == kind::DATASEC && self.name_of(row.name) == name
+        row.kind == kind::DATASEC && self.name_front(row.name, name.len() + 1) == name
     }
 
     /// The number of the first section of variables that has this name.

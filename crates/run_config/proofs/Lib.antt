@@ -2,6 +2,7 @@ pub mod Bits
 pub mod ConfigLemmas
 pub mod CountedLemmas
 pub mod FirstVariable
+pub mod Fronts
 pub mod GivenLemmas
 pub mod Joining
 pub mod Kept

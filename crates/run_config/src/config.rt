@@ -21,11 +21,15 @@ pub struct BadConfig {
 }
 
 /// Whether a variable is named by an underscore and the function's name.
+#[tactic(auto, using(crate::proofs::Fronts::named_for))]
 fn is_named_for(types: &Types, variable: &TypeRow, function: &[u8]) -> bool
     requires { RowFits types.now variable.now }
     ensures { result ≡ bytes_eq (name_at types.now variable.now.name) (codes "_" ++ function.now) }
 {
-    match types.name_of(variable.name).split_first() {
+    match types
+        .name_front(variable.name, function.len() + 2)
+        .split_first()
+    {
         Some((first, name)) => *first == b'_' && name == function,
         None => false,
     }
