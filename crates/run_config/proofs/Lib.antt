@@ -12,6 +12,5 @@ pub mod MapsLemmas
 pub mod Members
 pub mod Pairing
 pub mod Parts
-pub mod Resolving
 pub mod SettingsLemmas
 pub mod MapBreaks

@@ -9,7 +9,6 @@ ghost use Rattle.run_config.specs.declared.config.BadConfig.{BadConfig};
 ghost use Rattle.run_config.specs.Config as configs;
 ghost use Rattle.run_config.specs.Variables.{parts_of};
 
-use crate::resolution::resolve;
 use crate::settings::{RunConfig, read_setting};
 use crate::variables::{part_at, section_of, variable_of};
 use btf_types::{TypeRow, Types, kind};
@@ -60,7 +59,7 @@ fn structure_of(types: &Types, number: u32) -> Option<&TypeRow>
         → (option_copied result ≡ Some structure) ↔ configs.IsStructure types.now number structure }
     ensures fits { IfSome result (λ structure. RowFits types.now structure.now) }
 {
-    let row = resolve(types, number)?;
+    let row = types.resolve(number)?;
     (row.kind == kind::STRUCT).then_some(row)
 }
 

@@ -30,7 +30,7 @@ returns-then-lacks_symbol c =
     let place = ap (λ (s : Section). s.offset + 16 * c.loop-index.index) section_is in
     ap Some place
     ∙ sym (ap first_place (rel_tests file number _ section_is c.if-section-ne-REL.false)
-    ∙ first_row (reloc_place file number) (λ index. lacks_symbol file (reloc_place file number index)) (λ i j h. omega arith) ((section file number).size / 16) _ c.loop-index.invariant (omega arith) (ap (lacks_symbol file) (sym place) ∙ cc))
+    ∙ first_row (reloc_place file number) (λ index. lacks_symbol file (reloc_place file number index)) (λ i j h. omega arith) ((section file number).size / 16) _ (λ k before. c.loop-index.invariant.passed k before (omega arith)) (omega arith) (ap (lacks_symbol file) (sym place) ∙ cc))
 
 pub returns : goal.returns
 returns c =
@@ -39,4 +39,10 @@ returns c =
     let section_is = c.section_at-section.ensures in
     let count = ap (λ (s : Section). s.size / 16) section_is in
     sym (ap first_place (rel_tests file number _ section_is c.if-section-ne-REL.false)
-    ∙ no_row (reloc_place file number) (λ index. lacks_symbol file (reloc_place file number index)) (λ i j h. omega arith) ((section file number).size / 16) (λ k known. c.loop-index.invariant k (omega arith)))
+    ∙ no_row (reloc_place file number) (λ index. lacks_symbol file (reloc_place file number index)) (λ i j h. omega arith) ((section file number).size / 16) (λ k known. c.loop-index.invariant.passed k (omega arith) (omega arith)))
+
+pub loop-index-preserved-then-is_clean : goal.loop-index-preserved-then-is_clean
+loop-index-preserved-then-is_clean c = ?
+
+pub loop-index-preserved : goal.loop-index-preserved
+loop-index-preserved c = ?
