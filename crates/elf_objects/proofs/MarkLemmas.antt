@@ -36,6 +36,10 @@ module _ (file : List ℕ) (marks : List Bool) (place : ℕ) (seen : (k : ℕ) �
       let before = still_marked marks place k mark in
       elim (cases_eq k place) [ inl e ↦ absurd (before.1 e) | inr n ↦ seen k (omega arith) before.0 ]
 
+pub mark_below : (place : ℕ) → place < 16777216 → mark_of place < 4096
+unfolding mark_of
+mark_below place small = omega arith
+
 -- no place behind the marks has one
 past_marks : (marks : List Bool) (place : ℕ) → length marks ≡ 4096 → has_mark marks place ≡ true → place < 16777216
 unfolding mark_of
