@@ -1,4 +1,4 @@
-use Rattle.std.proofs.Common.{◌≡◌, ◌+◌, ◌∷◌, [], length, length-append, ap, refl, sym, subst, arith}
+use Rattle.std.proofs.Common.{◌+◌, ◌∷◌, [], length, length-append, ap, refl, sym, subst, arith}
 use Rattle.btf_types.specs.Links.{IsLink}
 use Rattle.btf_types.proofs.LinkLemmas.{links_none, links_push}
 use Rattle.btf_types.proofs.link.first_links.Goals as goal

@@ -1,4 +1,4 @@
-use Rattle.std.proofs.Common.{sym, subst, arith, ◌≡◌, ◌+◌}
+use Rattle.std.proofs.Common.{subst, arith, ◌≡◌, ◌+◌}
 use Rattle.btf_types.specs.Links.{Passed}
 use Rattle.btf_types.proofs.Resolving.{passed_then}
 use Rattle.btf_types.proofs.link.Pass.then.Goals as goal

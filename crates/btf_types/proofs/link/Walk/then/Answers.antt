@@ -1,4 +1,4 @@
-use Rattle.std.proofs.Common.{sym, subst, arith, ◌≡◌, ◌+◌}
+use Rattle.std.proofs.Common.{subst, arith, ◌≡◌, ◌+◌}
 use Rattle.btf_types.specs.Links.{Walked}
 use Rattle.btf_types.proofs.SizeWalk.{walked_then}
 use Rattle.btf_types.proofs.link.Walk.then.Goals as goal

@@ -1,4 +1,4 @@
-use Rattle.std.proofs.Common.{◌≡◌, ℕ, ◌<◌, ◌≤◌, ◌*◌, ◌/◌, ◌-◌, ◌^◌, min, arith, ◌∙◌, sym, refl}
+use Rattle.std.proofs.Common.{◌≡◌, ◌<◌, ◌≤◌, ◌*◌, ◌/◌, arith, ◌∙◌, sym, refl}
 use Rattle.std.proofs.Math.Nat.{mul-le-mul_left}
 use Rattle.btf_types.proofs.Scaling.{product_fits, within, within_back, scaled_product}
 use Rattle.btf_types.proofs.size.Scale.around.Goals as goal

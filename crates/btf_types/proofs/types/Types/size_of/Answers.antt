@@ -1,4 +1,4 @@
-use Rattle.std.proofs.Common.{◌≡◌, ◌+◌, ◌<◌, refl, sym, arith, length, subst}
+use Rattle.std.proofs.Common.{◌≡◌, ◌+◌, refl, sym, arith, subst}
 use Rattle.btf_types.specs.Links.{Walked}
 use Rattle.btf_types.specs.Size.{IsEndless}
 use Rattle.btf_types.proofs.SizeWalk.{absent_not_endless, absent_not_sized, endless_not_sized, own_not_endless, walked_elements, walked_endless, walked_none, walked_target, walked_then, walked_to_own}
