@@ -1,8 +1,6 @@
 -- Names that are told by their first bytes.
-use Rattle.std.proofs.Common.{◌≡◌, ℕ, zero, suc, ◌+◌, ◌<◌, ◌&&◌, ◌||◌, ◌++◌, true, false, Bool, nat_eq, List, [], ◌∷◌, codes, length, take, refl, ap, sym, ◌∙◌, arith}
-use Rattle.std.specs.List.{list_any}
+use Rattle.std.proofs.Common.{◌≡◌, ℕ, zero, suc, ◌+◌, ◌<◌, ◌&&◌, ◌++◌, nat_eq, List, [], ◌∷◌, codes, length, take, refl, ap, arith}
 use Rattle.std.specs.Str.{bytes_eq}
-use Rattle.xio.specs.declared.action.Action.{Action}
 use Rattle.xio.specs.declared.action.Action.TheVariants.{Aborted, Drop, Pass, Tx, Redirect}
 use Rattle.run_config.specs.declared.map_member.Field.{Field}
 use Rattle.run_config.specs.declared.map_member.Field.TheVariants.{Kind, MaxEntries, KeySize, ValueSize, MapFlags, Pinning, Key, Value}

@@ -1,4 +1,4 @@
-use Rattle.std.proofs.Common.{◌≡◌, ◌∙◌, sym, arith}
+use Rattle.std.proofs.Common.{◌∙◌, sym, arith}
 use Rattle.std.proofs.lemmas.List.{length-set}
 use Rattle.elf_objects.proofs.MarkLemmas.{mark_below, marks_all, marks_kept, marks_taken}
 use Rattle.elf_objects.proofs.reloc_marks.clean_marks.Goals as goal
