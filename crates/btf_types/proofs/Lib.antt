@@ -2,7 +2,9 @@ pub mod Breaking
 pub mod Entries
 pub mod Headers
 pub mod Names
+pub mod LinkLemmas
 pub mod Pigeonhole
+pub mod Resolving
 pub mod Rows
 pub mod Scaling
 pub mod SizeWalk

@@ -3,15 +3,10 @@ use Rattle.std.proofs.Common.{◌≡◌, ℕ, suc, ◌+◌, ◌-◌, ◌*◌, �
 use Rattle.btf_types.specs.declared.size.Scale.{Scale}
 use Rattle.btf_types.specs.declared.size.Sizing.TheVariants.{Own, OfTarget, OfElements, Absent}
 use Rattle.btf_types.specs.TypeTable.{TypeTable}
+use Rattle.btf_types.specs.Links.{after, Walked}
 use Rattle.btf_types.specs.Scale.{Scales}
 use Rattle.btf_types.specs.Size.{HasSize, own, of_target, of_elements, IsEndless, RefersTo, referred, sizing}
-use Rattle.btf_types.proofs.Sizes.{Ends, after, ends_from_after, endless_from_after, ends_somewhere, size_absent, size_ends, size_of_elements, size_of_target, size_own, size_small}
-
--- the size of the first type is that of the type that is reached, scaled
-pub record Walked (types : TypeTable) (first at steps : ℕ) (scale : Scale) : Type 0 where
-  pub in_range : at ≤ length types.rows
-  pub path : (k : ℕ) → after types (steps + k) first ≡ after types k at
-  pub sized : (total : ℕ) → HasSize types first total ↔ ((size : ℕ) × HasSize types at size × Scales scale size total)
+use Rattle.btf_types.proofs.Sizes.{Ends, after_split, ends_from_after, endless_from_after, ends_somewhere, size_absent, size_ends, size_of_elements, size_of_target, size_own, size_small}
 
 module _ (types : TypeTable) where
   pub walked_none : (first : ℕ) (scale : Scale) → scale.factor ≡ 1 → scale.largest ≡ 2 ^ 32 - 1 → first ≤ length types.rows → Walked types first first 0 scale
@@ -76,12 +71,29 @@ module _ (types : TypeTable) where
   pub absent_not_endless : {first at steps : ℕ} {scale : Scale} → Walked types first at steps scale → sizing types at ≡ Absent → IsEndless types first → ⊥
   absent_not_endless w e h = ends_somewhere types (walked_ends w (ap referred e)) h
 
+  -- one way behind another
+  pub walked_then : {first mid at s1 s2 : ℕ} {outer inner scale : Scale} → Walked types first mid s1 outer → Walked types mid at s2 inner
+      → ((size total : ℕ) → Scales scale size total ↔ ((middle : ℕ) × Scales inner size middle × Scales outer middle total)) → Walked types first at (s1 + s2) scale
+  walked_then {first = first} {mid = mid} {at = at} {s1 = s1} {s2 = s2} w v scales = record {
+    in_range = v.in_range;
+    path = λ k. (let both : (s1 + s2) + k ≡ s1 + (s2 + k) = omega arith in rw both (w.path (s2 + k) ∙ v.path k));
+    sized = λ total. (
+      (λ h. (let outside = (w.sized total).0 h in
+          let inside = (v.sized outside.0).0 outside.1 in
+          (inside.0, inside.1, (scales inside.0 total).1 (outside.0, inside.2, outside.2)))),
+      (λ h. (let middle = (scales h.0 total).0 h.2 in
+          (w.sized total).1 (middle.0, (v.sized middle.0).1 (h.0, h.1, middle.1), middle.2))),
+    );
+  }
+
   -- more references than types
-  pub walked_endless : {first at : ℕ} {scale : Scale} → Walked types first at (length types.rows + 1) scale → IsEndless types first
+  pub walked_endless : {first at steps : ℕ} {scale : Scale} → Walked types first at steps scale → length types.rows < steps → IsEndless types first
   unfolding after
-  walked_endless {first = first} {at = at} w =
-      let all : length types.rows + 1 + 0 ≡ suc (length types.rows) = omega arith in
-      endless_from_after types first at (subst (λ k. after types k first ≡ Some at) all (w.path 0))
+  walked_endless {first = first} {at = at} {steps = steps} w more =
+      let count = suc (length types.rows) in
+      let all : steps + 0 ≡ count + (steps - count) = omega arith in
+      let split = after_split types count (steps - count) first at (subst (λ k. after types k first ≡ Some at) all (w.path 0)) in
+      endless_from_after types first split.0 split.1
 
   pub endless_not_sized : {first total : ℕ} → IsEndless types first → HasSize types first total → ⊥
   endless_not_sized e h = ends_somewhere types (size_ends types h) e

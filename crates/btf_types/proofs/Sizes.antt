@@ -5,6 +5,7 @@ use Rattle.btf_types.proofs.Pigeonhole.{pigeonhole}
 use Rattle.btf_types.specs.declared.size.Sizing.TheVariants.{Own, OfTarget, OfElements, Absent}
 use Rattle.btf_types.specs.declared.types.TypeRow.{TypeRow}
 use Rattle.btf_types.specs.TypeTable.{TypeTable}
+use Rattle.btf_types.specs.Links.{after}
 use Rattle.btf_types.specs.Size.{HasSize, own, of_target, of_elements, IsEndless, Meets, itself, further, RefersTo, referred, sizing, sizing_of_row}
 
 -- from a type the references come to an end
@@ -70,11 +71,6 @@ module _ (types : TypeTable) where
 
   pub ends_somewhere : {n : ℕ} → Ends types n → IsEndless types n → ⊥
   ends_somewhere e h = no_way_back (ends_met h.once e) h.refers h.again
-
--- what is met after so many references
-unfoldable pub after : TypeTable → ℕ → ℕ → Option ℕ
-after types zero n = Some n
-after types (suc k) n = option_and_then (after types k) (referred (sizing types n))
 
 module _ (types : TypeTable) where
   -- from one reference on

@@ -6,3 +6,5 @@ pub mod TypeTable
 pub mod Reading
 pub mod Size
 pub mod Scale
+pub mod Resolution
+pub mod Links

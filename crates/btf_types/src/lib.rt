@@ -4,7 +4,9 @@
 mod bad_btf;
 mod header;
 pub mod kind;
+mod link;
 mod read;
+mod resolution;
 mod size;
 mod type_bytes;
 mod types;

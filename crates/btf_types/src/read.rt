@@ -10,6 +10,7 @@ ghost use Rattle.btf_types.specs.TypeBytes.{parts_of, IsWhole};
 
 use crate::bad_btf::{BadBtf, BtfEnd};
 use crate::header::{Sections, sections_of};
+use crate::link::links_of;
 use crate::type_bytes::{bytes_behind, push_parts, row_of};
 use crate::types::{Part, TypeRow, Types};
 use crate::walk::{count_types, name_break, reference_break};
@@ -64,5 +65,7 @@ pub fn read_btf(alloc: Global, bytes: &[u8]) -> Result<Types, BtfEnd>
     let (rows, parts) = read_rows(alloc, sections.types)?;
     let mut strings = Bytes::new(alloc);
     strings.append(sections.strings)?;
-    Ok(Types::new(rows, parts, strings))
+    let types = Types::new(alloc, rows, parts, strings);
+    let links = links_of(alloc, &types)?;
+    Ok(types.with_links(links))
 }

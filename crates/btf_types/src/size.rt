@@ -1,6 +1,6 @@
 //! The sizes of types.
 
-ghost use Rattle.std.specs.Prelude.{◌≡◌, ◌≢◌, ℕ, ◌*◌, ◌<◌, ◌≤◌, ◌^◌, ◌↔◌, length, IfSome};
+ghost use Rattle.std.specs.Prelude.{◌≡◌, ◌≢◌, ℕ, ◌-◌, ◌*◌, ◌<◌, ◌≤◌, ◌^◌, ◌↔◌, length, IfSome};
 ghost use Rattle.btf_types.specs.Scale.{IsBounded, Scales};
 ghost use Rattle.btf_types.specs.Size.{referred, sizing, HasSize, IsEndless};
 
@@ -19,7 +19,7 @@ pub enum Size {
 
 /// By what a type has its size.
 #[derive(Clone, Copy, Debug)]
-enum Sizing {
+pub(crate) enum Sizing {
     Own(u32),
     /// That of its target.
     OfTarget(u32),
@@ -30,14 +30,24 @@ enum Sizing {
 
 /// What arrays around a type make of its size: `factor` times it, where it is at most `largest`.
 #[derive(Clone, Copy, Debug)]
-struct Scale {
-    factor: u32,
-    largest: u32,
+pub(crate) struct Scale {
+    pub factor: u32,
+    pub largest: u32,
 }
 
 impl Scale {
+    /// The scale of what has nothing around it.
+    pub(crate) fn none() -> Scale
+        ensures { result ≡ record { factor = 1; largest = 2 ^ 32 - 1 } }
+    {
+        Scale {
+            factor: 1,
+            largest: u32::MAX,
+        }
+    }
+
     /// The scale round an array of so many elements.
-    fn of_elements(self, count: u32) -> Scale
+    pub(crate) fn of_elements(self, count: u32) -> Scale
         requires { IsBounded self }
         ensures bounded { IsBounded result }
         ensures scales { (size total : ℕ) → size < 2 ^ 32
@@ -52,6 +62,23 @@ impl Scale {
         Scale {
             factor: self.factor.saturating_mul(count),
             largest: self.largest / count,
+        }
+    }
+
+    /// This scale round another.
+    pub(crate) fn around(self, inner: Scale) -> Scale
+        requires outer { IsBounded self }
+        requires inner { IsBounded inner }
+        ensures bounded { IsBounded result }
+        ensures scales { (size total : ℕ) → Scales result size total
+            ↔ ((middle : ℕ) × Scales inner size middle × Scales self middle total) }
+    {
+        if inner.factor == 0 {
+            return inner;
+        }
+        Scale {
+            factor: self.factor.saturating_mul(inner.factor),
+            largest: inner.largest.min(self.largest / inner.factor),
         }
     }
 
@@ -72,7 +99,7 @@ impl Scale {
 impl Types {
     /// By what a type has its size.
     #[tactic(auto, unfolding(crate::specs::Size::sizing))]
-    fn sizing(&self, number: u32) -> Sizing
+    pub(crate) fn sizing(&self, number: u32) -> Sizing
         requires { number ≤ length self.now.rows }
         ensures sizing { result ≡ sizing self.now number }
         ensures in_range { IfSome (referred result) (λ other. other ≤ length self.now.rows) }
@@ -111,18 +138,22 @@ impl Types {
         ensures endless { (result ≡ Size.Endless) ↔ IsEndless self.now number }
     {
         let mut at = number;
-        let mut scale = Scale {
-            factor: 1,
-            largest: u32::MAX,
-        };
+        let mut scale = Scale::none();
+        let mut steps = 0;
         // More references than types meet one type twice.
-        for _ in 0..self.len() as u64 + 1 {
-            match self.sizing(at) {
-                Sizing::Own(size) => return scale.scaled(size),
-                Sizing::OfTarget(target) => at = target,
+        while steps <= self.len() as u64 {
+            let walk = self.link(at).walk;
+            let around = scale.around(walk.scale);
+            steps += walk.steps as u64 + 1;
+            match self.sizing(walk.at) {
+                Sizing::Own(size) => return around.scaled(size),
+                Sizing::OfTarget(target) => {
+                    at = target;
+                    scale = around;
+                }
                 Sizing::OfElements(count, element) => {
-                    scale = scale.of_elements(count);
                     at = element;
+                    scale = around.of_elements(count);
                 }
                 Sizing::Absent => return Size::Unsized,
             }

@@ -1,9 +1,12 @@
-ghost use Rattle.std.specs.Prelude.{◌≡◌, ◌<◌, ◌≤◌, length, position, slice_get, ◌==◌, Some};
+ghost use Rattle.std.specs.Prelude.{◌≡◌, ◌<◌, ◌≤◌, length, position, slice_get, take, ◌==◌, Some};
 ghost use Rattle.std.specs.List.{before_first};
+ghost use Rattle.btf_types.specs.Links.{AreLinks, IsLink};
 ghost use Rattle.btf_types.specs.TypeTable.{is_section_named, name_at, section_vars, type_at, IsSound, PartFits, RowFits};
 
 use crate::kind;
+use crate::link::{Link, link_in};
 use lists::{Bytes, List};
+use std::alloc::Global;
 use std::marker::Model;
 
 /// A type. Its parts are `count` of all parts, from number `first` on.
@@ -36,16 +39,19 @@ pub struct Types {
     rows: List<TypeRow>,
     parts: List<Part>,
     strings: Bytes,
+    /// The ways from types to others, as many as are known.
+    links: List<Link>,
 }
 
 impl Model for Types {
+    ghost use Rattle.btf_types.specs.Links.{AreLinks};
     ghost use Rattle.btf_types.specs.TypeTable.{TypeTable, IsSound};
 
     ghost Value = { TypeTable };
 
     ghost view = { λ types. record { rows = types.rows; parts = types.parts; strings = types.strings } };
 
-    ghost invariant = { λ types. IsSound (record { rows = types.rows; parts = types.parts; strings = types.strings }) };
+    ghost invariant = { λ types. IsSound (record { rows = types.rows; parts = types.parts; strings = types.strings }) × AreLinks (record { rows = types.rows; parts = types.parts; strings = types.strings }) types.links };
 }
 
 /// The place of the first byte that is 0.
@@ -67,7 +73,7 @@ fn up_to_zero(bytes: &[u8]) -> &[u8]
 }
 
 impl Types {
-    pub(crate) fn new(rows: List<TypeRow>, parts: List<Part>, strings: Bytes) -> Self
+    pub(crate) fn new(alloc: Global, rows: List<TypeRow>, parts: List<Part>, strings: Bytes) -> Self
         requires { IsSound (record { rows = rows; parts = parts; strings = strings }) }
         ensures { result ≡ record { rows = rows; parts = parts; strings = strings } }
     {
@@ -75,7 +81,29 @@ impl Types {
             rows,
             parts,
             strings,
+            links: List::new(alloc),
         }
+    }
+
+    /// The same types, with these ways.
+    pub(crate) fn with_links(self, links: List<Link>) -> Self
+        requires { AreLinks self links }
+        ensures { result ≡ self }
+    {
+        Types {
+            rows: self.rows,
+            parts: self.parts,
+            strings: self.strings,
+            links,
+        }
+    }
+
+    /// The ways from a type.
+    pub(crate) fn link(&self, number: u32) -> Link
+        requires { number ≤ length self.now.rows }
+        ensures { IsLink self.now number result }
+    {
+        link_in(self, &self.links, number)
     }
 
     /// The number of types.
@@ -111,12 +139,23 @@ impl Types {
         up_to_zero(&self.strings.as_slice()[offset as usize..])
     }
 
+    /// The first bytes of the name at a place of the strings, at most so many. It costs no more for a longer name.
+    #[tactic(auto, using(crate::proofs::Names::front_at))]
+    pub fn name_front(&self, offset: u32, limit: usize) -> &[u8]
+        requires { offset < length self.now.strings }
+        ensures { result.now ≡ take limit (name_at self.now offset) }
+    {
+        let rest = &self.strings.as_slice()[offset as usize..];
+        up_to_zero(&rest[..rest.len().min(limit)])
+    }
+
     /// Whether a type is a section of variables of this name.
+    #[tactic(auto, using(crate::proofs::Names::front_is))]
     fn is_section_named(&self, row: &TypeRow, name: &[u8]) -> bool
         requires { row.now.name < length self.now.strings }
         ensures { result ≡ is_section_named self.now name.now row.now }
     {
-        row.kind == kind::DATASEC && self.name_of(row.name) == name
+        row.kind == kind::DATASEC && self.name_front(row.name, name.len() + 1) == name
     }
 
     /// The number of the first section of variables that has this name.

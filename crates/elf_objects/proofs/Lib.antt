@@ -8,4 +8,5 @@ pub mod Rows
 pub mod Relocs
 pub mod FirstBreak
 pub mod References
+pub mod MarkLemmas
 pub mod NameFronts

@@ -1,5 +1,5 @@
 -- The front of a name, and the whole of it, in the bytes of its table.
-use Rattle.std.proofs.Common.{◌≡◌, ℕ, ◌+◌, ◌-◌, ◌<◌, ◌≤◌, Bool, true, false, zero, suc, not, ◌&&◌, ap, List, [], ◌∷◌, length, take, drop, get_or, refl, sym, ◌∙◌, arith}
+use Rattle.std.proofs.Common.{◌≡◌, ℕ, ◌+◌, ◌-◌, Bool, true, false, suc, not, ◌&&◌, ap, List, [], ◌∷◌, length, take, drop, get_or, refl, sym, ◌∙◌, arith}
 use Rattle.std.specs.Prelude.{◌==◌, nat_eq, nat_lt}
 use Rattle.std.specs.List.{before_first, position_or_len, list_all, list_any, starts_with}
 use Rattle.std.specs.Str.{bytes_eq}

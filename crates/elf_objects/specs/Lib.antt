@@ -8,5 +8,6 @@ pub mod Symbol
 pub mod SymbolKind
 pub mod Reloc
 pub mod Object
+pub mod RelocMarks
 pub mod RelocTables
 pub mod ObjectRead

@@ -9,6 +9,7 @@ mod header;
 mod names;
 mod object;
 mod reloc;
+mod reloc_marks;
 mod reloc_tables;
 mod section;
 pub mod section_flag;

@@ -5,9 +5,11 @@ ghost use Rattle.elf_objects.specs.Breaks.{earlier, first_place};
 ghost use Rattle.elf_objects.specs.Section.{HasHeaders, section_count};
 ghost use Rattle.elf_objects.specs.Names.{HasContents};
 ghost use Rattle.elf_objects.specs.Symbol.{symbol_count};
+ghost use Rattle.elf_objects.specs.RelocMarks.{AreClean};
 ghost use Rattle.elf_objects.specs.Reloc.{reloc_at, lacks_symbol, is_bad_reloc_table, bad_reloc_table, reloc_tests, missing_symbol};
 
 use crate::fields::{u32_at, u64_at};
+use crate::reloc_marks::{clean_marks, is_clean, relocs_left};
 use crate::section::{entry_size, header_place, is_of_kind, section_at, section_count};
 use crate::section_flag::EXECINSTR;
 use crate::section_kind::{REL, RELA, SYMTAB};
@@ -65,7 +67,7 @@ pub(crate) fn bad_reloc_table(file: &[u8]) -> Option<u64>
 
 /// Whether the symbol of the relocation at a place is none of so many.
 #[tactic(auto, unfolding(crate::specs::Reloc::lacks_symbol))]
-fn lacks_symbol(file: &[u8], place: u64, symbols: u64) -> bool
+pub(crate) fn lacks_symbol(file: &[u8], place: u64, symbols: u64) -> bool
     requires place { place + 16 ≤ length file.now }
     requires symbols { symbols ≡ symbol_count file.now }
     ensures { result ≡ lacks_symbol file.now place }
@@ -73,22 +75,29 @@ fn lacks_symbol(file: &[u8], place: u64, symbols: u64) -> bool
     symbols <= u64::from(reloc_at(file, place as usize).symbol)
 }
 
-/// Where the first relocation of a section stands whose symbol is none of so many.
-fn missing_symbol_in(file: &[u8], number: u32, symbols: u64) -> Option<u64>
+/// Where the first relocation of a section stands whose symbol is none of so many. Blocks that are known to have none are passed over.
+fn missing_symbol_in(file: &[u8], number: u32, symbols: u64, marks: &[bool]) -> Option<u64>
     requires contents { HasContents file.now }
     requires number { number < section_count file.now }
     requires symbols { symbols ≡ symbol_count file.now }
+    requires marks { AreClean file.now marks.now }
     ensures { result ≡ first_place (reloc_tests file.now number) }
 {
     let section = section_at(file, number);
     if section.kind != REL {
         return None;
     }
-    for index in 0..section.size / 16 {
+    let mut index = 0;
+    while index < section.size / 16 {
         let place = section.offset + 16 * index;
+        if is_clean(marks, place) {
+            index += relocs_left(place);
+            continue;
+        }
         if lacks_symbol(file, place, symbols) {
             return Some(place);
         }
+        index += 1;
     }
     None
 }
@@ -111,9 +120,10 @@ pub(crate) fn missing_symbol(file: &[u8]) -> Option<u64>
     ensures { result ≡ first_place (missing_symbol file.now) }
 {
     let symbols = symbol_section(file).size / 24;
+    let marks = clean_marks(file, symbols);
     let mut least = None;
     for number in 0..section_count(file) {
-        least = earlier(least, missing_symbol_in(file, number, symbols));
+        least = earlier(least, missing_symbol_in(file, number, symbols, &marks));
     }
     least
 }

@@ -7,14 +7,14 @@ use Rattle.btf_types.specs.TypeTable.{TypeTable}
 use Rattle.run_config.specs.declared.settings.RunConfig.{RunConfig}
 use Rattle.run_config.specs.declared.config.BadConfig.{BadConfig}
 use Rattle.run_config.specs.Config.{IsConfig, by_default, no_structure, bad_member, by_members, config_variable, HasSettings, IsFirstBad, IsStructure}
-use Rattle.run_config.specs.Resolution.{Resolves}
+use Rattle.btf_types.specs.Resolution.{Resolves}
 use Rattle.run_config.specs.Settings.{Sets, config_from}
 use Rattle.run_config.specs.Values.{Named}
 use Rattle.run_config.specs.Variables.{parts_of}
 use Rattle.run_config.proofs.CountedLemmas.{counts-unique}
 use Rattle.run_config.proofs.Pairing.{paired-at, paired-unique}
 use Rattle.run_config.proofs.Parts.{slice_get-take}
-use Rattle.run_config.proofs.Resolving.{resolves-unique}
+use Rattle.btf_types.proofs.Resolving.{resolves-unique}
 
 module _ (types : TypeTable) where
   sets-unique : (member : Part) (one other : Named) → Sets types member one → Sets types member other → one ≡ other

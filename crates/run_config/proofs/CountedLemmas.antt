@@ -3,9 +3,9 @@ use Rattle.std.proofs.Common.{◌≡◌, ℕ, ◌*◌, ap, sym, ◌∙◌, subst
 use Rattle.btf_types.specs.Size.{HasSize, own, of_target, of_elements}
 use Rattle.btf_types.specs.TypeTable.{TypeTable}
 use Rattle.btf_types.proofs.Sizes.{size_own, size_of_target, size_of_elements}
-use Rattle.run_config.specs.Resolution.{Resolves}
+use Rattle.btf_types.specs.Resolution.{Resolves}
 use Rattle.run_config.specs.Counted.{Counts}
-use Rattle.run_config.proofs.Resolving.{resolves-unique}
+use Rattle.btf_types.proofs.Resolving.{resolves-unique}
 
 module _ (types : TypeTable) where
   pub counts-unique : {number one other : ℕ} → Counts types number one → Counts types number other → one ≡ other

@@ -2,6 +2,7 @@ pub mod Bits
 pub mod ConfigLemmas
 pub mod CountedLemmas
 pub mod FirstVariable
+pub mod Fronts
 pub mod GivenLemmas
 pub mod Joining
 pub mod Kept
@@ -11,6 +12,5 @@ pub mod MapsLemmas
 pub mod Members
 pub mod Pairing
 pub mod Parts
-pub mod Resolving
 pub mod SettingsLemmas
 pub mod MapBreaks

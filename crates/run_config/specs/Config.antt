@@ -7,7 +7,7 @@ use Rattle.btf_types.specs.Kind.{STRUCT}
 use Rattle.btf_types.specs.TypeTable.{TypeTable, name_at}
 use Rattle.run_config.specs.declared.settings.RunConfig.{RunConfig}
 use Rattle.run_config.specs.declared.config.BadConfig.{BadConfig}
-use Rattle.run_config.specs.Resolution.{Resolves}
+use Rattle.btf_types.specs.Resolution.{Resolves}
 use Rattle.run_config.specs.Values.{Named, Paired}
 use Rattle.run_config.specs.Variables.{parts_of, variables}
 use Rattle.run_config.specs.Settings.{Sets, config_from}

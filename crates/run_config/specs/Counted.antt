@@ -4,7 +4,7 @@ use Rattle.btf_types.specs.declared.types.Part.{Part}
 use Rattle.btf_types.specs.declared.types.TypeRow.{TypeRow}
 use Rattle.btf_types.specs.Kind.{ARRAY, PTR}
 use Rattle.btf_types.specs.TypeTable.{TypeTable}
-use Rattle.run_config.specs.Resolution.{Resolves}
+use Rattle.btf_types.specs.Resolution.{Resolves}
 
 -- a pointer to an array of so many elements, each through modifiers
 pub record Counts (types : TypeTable) (number value : ℕ) : Type 0 where

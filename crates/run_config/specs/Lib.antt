@@ -1,4 +1,3 @@
-pub mod Resolution
 pub mod Counted
 pub mod Variables
 pub mod Values

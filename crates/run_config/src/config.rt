@@ -9,7 +9,6 @@ ghost use Rattle.run_config.specs.declared.config.BadConfig.{BadConfig};
 ghost use Rattle.run_config.specs.Config as configs;
 ghost use Rattle.run_config.specs.Variables.{parts_of};
 
-use crate::resolution::resolve;
 use crate::settings::{RunConfig, read_setting};
 use crate::variables::{part_at, section_of, variable_of};
 use btf_types::{TypeRow, Types, kind};
@@ -21,11 +20,15 @@ pub struct BadConfig {
 }
 
 /// Whether a variable is named by an underscore and the function's name.
+#[tactic(auto, using(crate::proofs::Fronts::named_for))]
 fn is_named_for(types: &Types, variable: &TypeRow, function: &[u8]) -> bool
     requires { RowFits types.now variable.now }
     ensures { result ≡ bytes_eq (name_at types.now variable.now.name) (codes "_" ++ function.now) }
 {
-    match types.name_of(variable.name).split_first() {
+    match types
+        .name_front(variable.name, function.len() + 2)
+        .split_first()
+    {
         Some((first, name)) => *first == b'_' && name == function,
         None => false,
     }
@@ -56,7 +59,7 @@ fn structure_of(types: &Types, number: u32) -> Option<&TypeRow>
         → (option_copied result ≡ Some structure) ↔ configs.IsStructure types.now number structure }
     ensures fits { IfSome result (λ structure. RowFits types.now structure.now) }
 {
-    let row = resolve(types, number)?;
+    let row = types.resolve(number)?;
     (row.kind == kind::STRUCT).then_some(row)
 }
 

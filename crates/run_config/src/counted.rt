@@ -3,7 +3,6 @@
 ghost use Rattle.std.specs.Prelude.{◌≡◌, ℕ, ◌≤◌, ◌↔◌, length, Some};
 ghost use Rattle.run_config.specs.Counted.{Counts};
 
-use crate::resolution::resolve;
 use btf_types::{Types, kind};
 
 /// The number of elements of the array that a type points to, through modifiers.
@@ -11,11 +10,11 @@ pub(crate) fn counted(types: &Types, number: u32) -> Option<u32>
     requires { number ≤ length types.now.rows }
     ensures { (value : ℕ) → (result ≡ Some value) ↔ Counts types.now number value }
 {
-    let pointer = resolve(types, number)?;
+    let pointer = types.resolve(number)?;
     if pointer.kind != kind::PTR {
         return None;
     }
-    let array = resolve(types, pointer.size_or_target)?;
+    let array = types.resolve(pointer.size_or_target)?;
     if array.kind != kind::ARRAY {
         return None;
     }

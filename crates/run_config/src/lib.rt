@@ -8,7 +8,6 @@ mod map_definition;
 mod map_member;
 mod maps;
 mod named_map;
-mod resolution;
 mod settings;
 mod variables;
 

@@ -1,7 +1,7 @@
 //! The members of a map's definition.
 
 ghost use Rattle.std.specs.Prelude.{◌≡◌, ℕ, ◌≤◌, ◌↔◌, false, not, length, IfNone, IfSome};
-ghost use Rattle.btf_types.specs.TypeTable.{PartFits};
+ghost use Rattle.btf_types.specs.TypeTable.{name_at, PartFits};
 ghost use Rattle.run_config.specs.FieldName.{field_name};
 ghost use Rattle.run_config.specs.Given.{IsRead};
 ghost use Rattle.run_config.specs.MapMembers.{is_number, is_size, Points};
@@ -68,6 +68,20 @@ fn field_of(name: &[u8]) -> Option<Field>
     }
 }
 
+/// One byte more than the longest name of a field has.
+const FRONT: usize = 12;
+
+/// What a member gives.
+#[tactic(auto, using(crate::proofs::Fronts::fields))]
+fn field_at(types: &Types, member: &Part) -> Option<Field>
+    requires { PartFits types.now member.now }
+    ensures name { IfSome result (λ field. name_at types.now member.now.name ≡ field_name field) }
+    ensures other { IfNone result ((is_number (name_at types.now member.now.name) ≡ false)
+        × (is_size (name_at types.now member.now.name) ≡ false)) }
+{
+    field_of(types.name_front(member.name, FRONT))
+}
+
 /// The type that a pointer points to.
 fn target_of(types: &Types, number: u32) -> Option<u32>
     requires { number ≤ length types.now.rows }
@@ -86,7 +100,7 @@ pub(crate) fn read_member(types: &Types, member: &Part) -> Result<(Field, u32), 
     requires { PartFits types.now member.now }
     ensures { IsRead types.now member.now result }
 {
-    let Some(field) = field_of(types.name_of(member.name)) else {
+    let Some(field) = field_at(types, member) else {
         return Err(2);
     };
     if !field.gives_size() {

@@ -1,7 +1,7 @@
 //! What the members of a run configuration set.
 
 ghost use Rattle.std.specs.Prelude.{◌≡◌, ◌==◌, [], ◌∷◌, ◌++◌, Bool, List, is_some, IfNone, IfSome, if◌then◌else◌};
-ghost use Rattle.btf_types.specs.TypeTable.{PartFits};
+ghost use Rattle.btf_types.specs.TypeTable.{name_at, PartFits};
 ghost use Rattle.xio.specs.declared.action.Action.{Action};
 ghost use Rattle.xio.specs.Action.{number};
 ghost use Rattle.run_config.specs.SettingName.{setting_name};
@@ -51,13 +51,26 @@ fn setting_of(name: &[u8]) -> Option<Setting>
     }
 }
 
+/// One byte more than the longest name of a setting has.
+const FRONT: usize = 13;
+
+/// What a member sets, whatever its value is.
+#[tactic(auto, using(crate::proofs::Fronts::settings))]
+fn setting_at(types: &Types, member: &Part) -> Option<Setting>
+    requires { PartFits types.now member.now }
+    ensures name { IfSome result (λ setting. name_at types.now member.now.name ≡ setting_name setting) }
+    ensures known { is_some result ≡ is_setting (name_at types.now member.now.name) }
+{
+    setting_of(types.name_front(member.name, FRONT))
+}
+
 /// What a member sets, and its value.
 pub(crate) fn read_setting(types: &Types, member: &Part) -> Option<(Setting, u32)>
     requires { PartFits types.now member.now }
     ensures sets { IfSome result (λ read. Sets types.now member.now (record { name = setting_name read.0; value = read.1 })) }
     ensures none { IfNone result ((setting : Named) → Sets types.now member.now setting → ⊥) }
 {
-    let setting = setting_of(types.name_of(member.name))?;
+    let setting = setting_at(types, member)?;
     let value = counted(types, member.target)?;
     Some((setting, value))
 }

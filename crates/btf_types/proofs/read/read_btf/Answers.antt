@@ -5,8 +5,8 @@ use Rattle.btf_types.specs.Sections.{strings_of}
 use Rattle.btf_types.proofs.Soundness.{sound, types_of-lists}
 use Rattle.btf_types.proofs.read.read_btf.Goals as goal
 
-pub new-requires : goal.new-requires
-new-requires c =
+pub new-types-requires : goal.new-types-requires
+new-types-requires c =
     let are = c.in_ok-sections.ensures in
     let strings : c.append.new.self ≡ strings_of c.args.bytes.now = rw (c.in_ok-append.ensures.ok, c.new-strings.ensures) are.strings in
     let lists = types_of-lists c.args.bytes.now c.in_ok-sections.sections.types.now c.append.new.self c.in_ok-rows.rows c.in_ok-rows.parts are.types strings c.in_ok-rows.ensures.rows c.in_ok-rows.ensures.parts in
@@ -17,4 +17,4 @@ pub returns-clause-types : goal.returns-clause-types
 returns-clause-types c =
     let are = c.in_ok-sections.ensures in
     let strings : c.append.new.self ≡ strings_of c.args.bytes.now = rw (c.in_ok-append.ensures.ok, c.new-strings.ensures) are.strings in
-    c.new.ensures ∙ sym (types_of-lists c.args.bytes.now c.in_ok-sections.sections.types.now c.append.new.self c.in_ok-rows.rows c.in_ok-rows.parts are.types strings c.in_ok-rows.ensures.rows c.in_ok-rows.ensures.parts)
+    c.with_links.ensures ∙ c.new-types.ensures ∙ sym (types_of-lists c.args.bytes.now c.in_ok-sections.sections.types.now c.append.new.self c.in_ok-rows.rows c.in_ok-rows.parts are.types strings c.in_ok-rows.ensures.rows c.in_ok-rows.ensures.parts)

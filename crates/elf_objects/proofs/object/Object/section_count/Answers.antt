@@ -1,6 +1,5 @@
-use Rattle.std.proofs.Common.{◌≡◌, ℕ, List, None, length, ap, subst, sym, ◌∙◌}
+use Rattle.std.proofs.Common.{ap, sym, ◌∙◌}
 use Rattle.std.proofs.lemmas.List.FromFn.{length-map-range_with_len}
-use Rattle.elf_objects.specs.Object.{first_break}
 use Rattle.elf_objects.specs.Section.{section, section_count}
 use Rattle.elf_objects.proofs.Soundness.{sound}
 use Rattle.elf_objects.proofs.object.Object.section_count.Goals as goal

@@ -4,8 +4,9 @@ use Rattle.std.proofs.lemmas.Option.{slice_get_within}
 use Rattle.btf_types.proofs.Pigeonhole.{pigeonhole}
 use Rattle.btf_types.specs.declared.types.TypeRow.{TypeRow}
 use Rattle.btf_types.specs.Kind.{has_target}
+use Rattle.btf_types.specs.Links.{depth, Passed}
 use Rattle.btf_types.specs.TypeTable.{TypeTable, type_at}
-use Rattle.run_config.specs.Resolution.{Resolves, here, through, is_modifier}
+use Rattle.btf_types.specs.Resolution.{Resolves, here, through, is_modifier}
 
 -- a modifier has a target
 pub modifier-has_target : (kind : ℕ) → is_modifier kind ≡ true → IsTrue (has_target kind)
@@ -36,12 +37,7 @@ module _ (types : TypeTable) where
   resolves-in_rows {number = number} {row = row} (here e m) = type_at-in_rows types number row e
   resolves-in_rows {number = number} (through {modifier = modifier} e m rest) = type_at-in_rows types number modifier e
 
-  -- how many modifiers are passed
-  abbrev pub depth : {number : ℕ} {row : TypeRow} → Resolves types number row → ℕ
-  depth (here e m) = zero
-  depth (through e m rest) = suc (depth rest)
-
-  pub depth-same : {number again : ℕ} {one other : TypeRow} → number ≡ again → (r : Resolves types number one) (s : Resolves types again other) → depth r ≡ depth s
+  pub depth-same : {number again : ℕ} {one other : TypeRow} → number ≡ again → (r : Resolves types number one) (s : Resolves types again other) → depth types r ≡ depth types s
   depth-same e (here f m) (here g n) = refl
   depth-same e (here f m) (through g n others) = cc
   depth-same e (through f m rest) (here g n) = cc
@@ -55,7 +51,7 @@ module _ (types : TypeTable) where
   met (through {number = number} e m rest) zero = number
   met (through e m rest) (suc i) = met rest i
 
-  behind : {number : ℕ} {row : TypeRow} (r : Resolves types number row) (i : ℕ) → i ≤ depth r → (s : Resolves types (met r i) row) × (depth s + i ≡ depth r)
+  behind : {number : ℕ} {row : TypeRow} (r : Resolves types number row) (i : ℕ) → i ≤ depth types r → (s : Resolves types (met r i) row) × (depth types s + i ≡ depth types r)
   behind (here e m) i le = (here e m, omega arith)
   behind (through e m rest) zero le = (through e m rest, omega arith)
   behind (through e m rest) (suc i) le =
@@ -63,7 +59,7 @@ module _ (types : TypeTable) where
       (further.0, omega (arith, further.1))
 
   -- fewer modifiers are passed than there are types
-  pub not_deep : {number : ℕ} {row : TypeRow} (r : Resolves types number row) → length types.rows ≤ depth r → ⊥
+  pub not_deep : {number : ℕ} {row : TypeRow} (r : Resolves types number row) → length types.rows ≤ depth types r → ⊥
   not_deep r le =
       let count = length types.rows in
       let place = λ (i : ℕ). met r i - 1 in
@@ -76,12 +72,6 @@ module _ (types : TypeTable) where
       let same : met r twice.first ≡ met r twice.second = omega (arith, twice.same, one_there.0, two_there.0) in
       let deep = depth-same same one.0 two.0 in
       omega (arith, deep, one.1, two.1, twice.order)
-
--- so many modifiers lead from a type to another
-pub record Passed (types : TypeTable) (first at steps : ℕ) : Type 0 where
-  pub in_range : at ≤ length types.rows
-  pub back : (row : TypeRow) → Resolves types at row → Resolves types first row
-  pub forth : (row : TypeRow) (r : Resolves types first row) → (s : Resolves types at row) × (depth types r ≡ steps + depth types s)
 
 module _ (types : TypeTable) where
   pub passed_none : (first : ℕ) → first ≤ length types.rows → Passed types first first 0
@@ -115,3 +105,13 @@ module _ (types : TypeTable) where
   -- more modifiers than types
   pub passed_all : {first at steps : ℕ} {row : TypeRow} → Passed types first at steps → length types.rows < steps → Resolves types first row → ⊥
   passed_all {row = row} w all r = let s = w.forth row r in not_deep types r (omega (arith, s.1))
+
+  -- one way behind another
+  pub passed_then : {first mid at s1 s2 : ℕ} → Passed types first mid s1 → Passed types mid at s2 → Passed types first at (s1 + s2)
+  passed_then w v = record {
+    in_range = v.in_range;
+    back = λ row r. w.back row (v.back row r);
+    forth = λ row r. (let s = w.forth row r in
+        let t = v.forth row s.0 in
+        (t.0, omega (arith, s.1, t.1)));
+  }
