@@ -65,7 +65,7 @@ def check_readme():
         amiss.append(f"README.md has {count} lines, and {MOST_LINES} are the most")
     stored = "\n".join(text_of(name) for name in ("crates/xdptool/stdout", "crates/xdptool/data/first.xdp"))
     examples = [f"examples/{name}" for name in os.listdir(f"{TOP}/examples")]
-    stored += "\n".join(text_of(path) for path in examples if os.path.isfile(f"{TOP}/{path}"))
+    stored += "\n".join(text_of(path) for path in examples if path.endswith((".xdp", ".out", ".sh")))
     for block in re.findall(r"(?ms)^```\n(\$ .*?)^```$", page):
         for line in block.splitlines():
             if not line.startswith("$ ") and line not in stored.splitlines():
