@@ -15,11 +15,11 @@ done
 capinfos -tcE "$folder/recording.pcapng" || exit 1
 tshark -n -r "$folder/recording.pcapng" -T fields -e frame.interface_name 2> "$folder/said" \
     | sort | uniq -c > "$folder/seen" || exit 1
-# the query is dropped in both phases, the connection to port 23 in the second
+# the filter drops the query in both phases, and the connection to port 23 in the second
 cat > "$folder/wanted" <<'END'
-     13 eth0:count_protocols()@entry
-     13 eth0:count_protocols()@exit
-     16 eth0:xdp_filter()@entry
-     16 eth0:xdp_filter()@exit
+      7 eth0:count_protocols()@entry
+      7 eth0:count_protocols()@exit
+     10 eth0:xdp_filter()@entry
+     10 eth0:xdp_filter()@exit
 END
 diff -u "$folder/wanted" "$folder/seen" && echo "recording: as expected"
