@@ -2,6 +2,7 @@ pub mod Counts
 pub mod Ranges
 pub mod Readings
 pub mod Items
+pub mod KnownLemmas
 pub mod Ordering
 pub mod ProgramSymbols
 pub mod Refusals

@@ -7,4 +7,5 @@ pub mod Maps
 pub mod Code
 pub mod Layout
 pub mod Linking
+pub mod KnownMaps
 pub mod Load

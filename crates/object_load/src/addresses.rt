@@ -2,12 +2,14 @@
 
 ghost use Rattle.std.specs.Prelude.{◌≡◌, ◌<◌, ◌≤◌, ◌+◌, ◌/◌, ◌==◌, ℕ, pos, ◌+ℤ◌, ◌-ℤ◌, ◌≤ℤ◌, ◌<ℤ◌, List, length, position};
 ghost use Rattle.std.specs.Str.{bytes_eq};
-ghost use Rattle.elf_objects.specs.Object.{symbols};
+ghost use Rattle.elf_objects.specs.Object.{symbol_name, symbols};
 ghost use Rattle.map_store.specs.Initial.{AreMakeable};
 ghost use Rattle.run_config.specs.Maps.{specs_of};
+ghost use Rattle.object_load.specs.KnownMaps.{AreKnown};
 ghost use Rattle.object_load.specs.Layout.{IsLayout};
 ghost use Rattle.object_load.specs.Linking as of_code;
 
+use crate::known_maps::KnownMaps;
 use crate::layout::Layout;
 use bpf_insn::Insn;
 use elf_objects::{Object, Reloc, Symbol};
@@ -53,15 +55,44 @@ fn map_named(maps: &[NamedMap], name: &[u8]) -> Option<usize>
     maps.iter().position(|map| map.name.as_slice() == name)
 }
 
+/// The number of the map of a symbol's name, which is looked up once for each place of a name.
+fn map_number(
+    object: &Object<'_>,
+    maps: &[NamedMap],
+    index: u32,
+    known: &mut KnownMaps,
+) -> Option<u32>
+    requires index { index < length (symbols object.now) }
+    requires few { length maps.now ≤ 32 }
+    requires known { AreKnown object.now maps.now known.old }
+    ensures number { result ≡ position (λ map. bytes_eq map.name (symbol_name object.now index)) maps.now }
+    ensures known { AreKnown object.now maps.now known.new }
+{
+    let place = object.symbol(index).name;
+    if let Some(number) = known.at(place) {
+        return Some(number);
+    }
+    let number = map_named(maps, object.symbol_name(index))? as u32;
+    known.keep(place, number);
+    Some(number)
+}
+
 /// What stands for the map of a symbol's name.
 #[tactic(auto, unfolding(crate::specs::Linking::map_reference))]
-fn map_reference(object: &Object<'_>, maps: &[NamedMap], index: u32) -> Option<i32>
-    requires known { index < length (symbols object.now) }
+fn map_reference(
+    object: &Object<'_>,
+    maps: &[NamedMap],
+    index: u32,
+    known: &mut KnownMaps,
+) -> Option<i32>
+    requires index { index < length (symbols object.now) }
     requires few { length maps.now ≤ 32 }
-    ensures { result ≡ of_code.map_reference object.now maps.now index }
+    requires known { AreKnown object.now maps.now known.old }
+    ensures reference { result ≡ of_code.map_reference object.now maps.now index }
+    ensures known { AreKnown object.now maps.now known.new }
 {
-    let place = map_named(maps, object.symbol_name(index))?;
-    Some(REFERENCES_START + place as i32)
+    let number = map_number(object, maps, index, known)?;
+    Some(REFERENCES_START + number as i32)
 }
 
 /// The address of a byte of a map's only value, or that of the byte behind its last.
@@ -114,16 +145,19 @@ fn address(
     maps: &[NamedMap],
     index: u32,
     imm: i32,
+    known: &mut KnownMaps,
 ) -> Option<i32>
-    requires known { index < length (symbols object.now) }
+    requires index { index < length (symbols object.now) }
+    requires known { AreKnown object.now maps.now known.old }
     requires layout { IsLayout object.now layout.now }
     requires makeable { AreMakeable (specs_of maps.now) }
     requires few { length layout.now.constants ≤ length maps.now }
-    ensures { result ≡ of_code.address object.now maps.now index imm }
+    ensures address { result ≡ of_code.address object.now maps.now index imm }
+    ensures known { AreKnown object.now maps.now known.new }
 {
     let symbol = object.symbol(index);
     if is_in_maps(object, symbol) {
-        return map_reference(object, maps, index);
+        return map_reference(object, maps, index, known);
     }
     constant_address(maps, layout.constants.as_slice(), symbol, imm)
 }
@@ -173,17 +207,20 @@ pub(crate) fn immediate(
     slot: u32,
     reloc: &Reloc,
     insn: &Insn,
+    known: &mut KnownMaps,
 ) -> Option<i32>
-    requires known { reloc.now.symbol < length (symbols object.now) }
+    requires symbol { reloc.now.symbol < length (symbols object.now) }
+    requires known { AreKnown object.now maps.now known.old }
     requires layout { IsLayout object.now layout.now }
     requires makeable { AreMakeable (specs_of maps.now) }
     requires few { length layout.now.constants ≤ length maps.now }
     requires own { own + layout.now.text_size / 8 ≤ 65536 }
     requires slot { slot ≤ 65536 }
-    ensures { result ≡ of_code.immediate object.now maps.now own slot reloc.now insn.now }
+    ensures immediate { result ≡ of_code.immediate object.now maps.now own slot reloc.now insn.now }
+    ensures known { AreKnown object.now maps.now known.new }
 {
     if reloc.kind == WIDE && is_wide_load(insn) {
-        address(object, layout, maps, reloc.symbol, insn.imm)
+        address(object, layout, maps, reloc.symbol, insn.imm, known)
     } else if reloc.kind == CALLED && is_local_call(insn) {
         distance(layout, own, object.symbol(reloc.symbol), slot, insn.imm)
     } else {

@@ -5,6 +5,7 @@ mod addresses;
 mod copying;
 mod drafts;
 mod fixes;
+mod known_maps;
 mod layout;
 mod linking;
 mod load;

@@ -4,6 +4,7 @@ ghost use Rattle.std.specs.Prelude.{◌≡◌, ◌≤◌, ◌+◌, ◌*◌, ◌%
 ghost use Rattle.map_store.specs.Initial.{AreMakeable};
 ghost use Rattle.run_config.specs.Maps.{specs_of};
 ghost use Rattle.object_load.specs.Code.{IsReady};
+ghost use Rattle.object_load.specs.KnownMaps.{AreKnown};
 ghost use Rattle.object_load.specs.Layout.{IsLayout};
 ghost use Rattle.object_load.specs.Linking as of_code;
 ghost use Rattle.object_load.specs.Load as of_object;
@@ -12,6 +13,7 @@ ghost use Rattle.object_load.specs.Reading.{Answers, AnswersAt};
 use crate::copying::{append, copy};
 use crate::drafts::{Draft, program_symbol};
 use crate::fixes::fix_all;
+use crate::known_maps::KnownMaps;
 use crate::layout::Layout;
 use crate::pieces::{Piece, relocs_for};
 use crate::program::{Program, ProgramList};
@@ -32,13 +34,16 @@ fn linked(
     maps: &[NamedMap],
     symbol: Symbol,
     insns: &[Insn],
+    known: &mut KnownMaps,
 ) -> Result<InsnList, SlotEnd>
+    requires known { AreKnown object.now maps.now known.old }
     requires layout { IsLayout object.now layout.now }
     requires makeable { AreMakeable (specs_of maps.now) }
     requires few { length layout.now.constants ≤ length maps.now }
     requires slots { symbol.size % 8 ≡ 0 }
     requires small { symbol.size + layout.now.text_size ≤ 8 * 65536 }
-    ensures { AnswersAt (λ answer. answer ≡ of_code.linked object.now maps.now symbol insns.now) result }
+    ensures linked { AnswersAt (λ answer. answer ≡ of_code.linked object.now maps.now symbol insns.now) result }
+    ensures known { AreKnown object.now maps.now known.new }
 {
     let own = (symbol.size / 8) as u32;
     let function = Piece::Own {
@@ -59,6 +64,7 @@ fn linked(
         own,
         function,
         relocs.as_slice(),
+        known,
         &mut code,
     ) {
         return Err(SlotEnd::Bad { slot });
@@ -70,6 +76,7 @@ fn linked(
         own,
         text,
         layout.text_relocs.as_slice(),
+        known,
         &mut code,
     ) {
         return Err(SlotEnd::Bad { slot });
@@ -107,15 +114,26 @@ fn make_program(
     layout: &Layout,
     maps: &[NamedMap],
     draft: &Draft,
+    known: &mut KnownMaps,
 ) -> Result<Program, SlotEnd>
+    requires known { AreKnown object.now maps.now known.old }
     requires ready { IsReady object.now draft.now }
     requires layout { IsLayout object.now layout.now }
     requires makeable { AreMakeable (specs_of maps.now) }
     requires few { length layout.now.constants ≤ length maps.now }
-    ensures { AnswersAt (λ answer. answer ≡ of_code.program_of object.now maps.now draft.now) result }
+    ensures program { AnswersAt (λ answer. answer ≡ of_code.program_of object.now maps.now draft.now) result }
+    ensures known { AreKnown object.now maps.now known.new }
 {
     let symbol = program_symbol(object, draft.function.symbol);
-    let insns = linked(alloc, object, layout, maps, symbol, draft.insns.as_slice())?;
+    let insns = linked(
+        alloc,
+        object,
+        layout,
+        maps,
+        symbol,
+        draft.insns.as_slice(),
+        known,
+    )?;
     let name = copy(alloc, object.symbol_name(draft.function.symbol))?;
     let section = copy(alloc, object.section_name(u32::from(symbol.section)))?;
     let maps = copy_maps(alloc, maps)?;
@@ -147,9 +165,10 @@ pub(crate) fn make_programs(
     ensures programs { Answers (of_object.ArePrograms object.now maps.now drafts.now) result }
     ensures runnable { IfOk result (All of_object.IsRunnable) }
 {
+    let mut known = KnownMaps::new(alloc, object)?;
     let mut programs = List::new(alloc);
     for draft in drafts {
-        let program = match make_program(alloc, object, layout, maps, draft) {
+        let program = match make_program(alloc, object, layout, maps, draft, &mut known) {
             Ok(program) => program,
             Err(SlotEnd::Bad { slot }) => {
                 return Err(LoadEnd::Refused(LoadRefusal::BadReloc {

@@ -20,24 +20,24 @@ linked-requires-clause-small c =
     let small = c.requires.ready.small in
     omega (arith, c.requires.layout.has_size)
 
-pub returns-in_err-insns : goal.returns-in_err-insns
-returns-in_err-insns c =
+pub returns-in_err-insns-clause-program : goal.returns-in_err-insns-clause-program
+returns-in_err-insns-clause-program c =
     let file = c.args.object.now in
     let maps = c.args.maps.now in
     let draft = c.args.draft.now in
     let end = c.in_err-insns.field-0.0 in
     let p = err_from_is_err_and c.from_residual.result c.from_residual.ensures.1 in
-    let by_symbol = subst (λ (s : Symbol). AnswersAt (λ answer. answer ≡ linked file maps s c.as_slice.result.now) (Err end)) c.program_symbol-symbol.ensures.symbol c.in_err-insns.ensures in
+    let by_symbol = subst (λ (s : Symbol). AnswersAt (λ answer. answer ≡ linked file maps s c.as_slice.result.now) (Err end)) c.program_symbol-symbol.ensures.symbol c.in_err-insns.ensures.linked in
     let ends = subst (λ (xs : List Insn). AnswersAt (λ answer. answer ≡ linked file maps (symbol file draft.function.symbol) xs) (Err end)) c.as_slice.ensures by_symbol in
     rw (p.1, p.2) (program_ends file maps draft end ends)
 
-pub returns : goal.returns
-returns c =
+pub returns-clause-program : goal.returns-clause-program
+returns-clause-program c =
     let file = c.args.object.now in
     let maps = c.args.maps.now in
     let draft = c.args.draft.now in
     let is = c.program_symbol-symbol.ensures.symbol in
-    let code = c.in_ok-insns.ensures ∙ ap (λ (s : Symbol). linked file maps s c.as_slice.result.now) is ∙ ap (linked file maps (symbol file draft.function.symbol)) c.as_slice.ensures in
+    let code = c.in_ok-insns.ensures.linked ∙ ap (λ (s : Symbol). linked file maps s c.as_slice.result.now) is ∙ ap (linked file maps (symbol file draft.function.symbol)) c.as_slice.ensures in
     let in_section = c.in_ok-section.ensures ∙ c.section_name.ensures ∙ ap (section_name file) (c.from.ensures ∙ ap (λ (s : Symbol). s.section) is) in
     let counted = c.len.ensures ∙ ap length c.in_ok-maps.ensures in
     program_made file maps draft c.in_ok-name.name c.in_ok-section.section c.in_ok-insns.insns c.len.result c.in_ok-maps.maps code (c.in_ok-name.ensures ∙ c.symbol_name.ensures) in_section counted c.in_ok-maps.ensures
