@@ -38,6 +38,10 @@ impl Piece {
     }
 }
 
+/// The most relocations for one section: as many as 16 MiB hold, if each is held once. More of them, which sections that overlap
+/// can have, count as want of memory.
+const MOST_RELOCS: usize = 1_048_576;
+
 /// Puts the relocations that a section holds for another one behind others.
 #[tactic(auto, unfolding(crate::specs::Linking::relocs_from))]
 fn push_relocs(
@@ -54,7 +58,11 @@ fn push_relocs(
     if object.section(number).info != target {
         return Ok(());
     }
-    append(found, object.relocs(number))
+    let relocs = object.relocs(number);
+    if found.len() as usize + relocs.len() > MOST_RELOCS {
+        return Err(OutOfMemory);
+    }
+    append(found, relocs)
 }
 
 /// The relocations for a section, in the order of the sections that hold them.
