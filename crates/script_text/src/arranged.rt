@@ -8,7 +8,7 @@ use crate::rule::{BAD_FORM, Rule};
 use crate::words::next_word;
 
 /// Words that are kept as they are: the verb's own in their order, and the names that options give.
-#[derive(Clone, Copy, Debug)]
+#[derive(Clone, Copy)]
 pub struct Plain<'a> {
     pub first: Option<&'a [u8]>,
     pub second: Option<&'a [u8]>,
@@ -18,7 +18,7 @@ pub struct Plain<'a> {
 }
 
 /// The words behind a verb: what the options give, and the words that are kept.
-#[derive(Clone, Copy, Debug)]
+#[derive(Clone, Copy)]
 pub struct Words<'a> {
     pub given: Given,
     pub plain: Plain<'a>,

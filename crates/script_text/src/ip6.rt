@@ -5,7 +5,7 @@ use crate::hexadecimal::group_of;
 use crate::parts::first_part;
 
 /// Groups of 16 bits: how many, at most eight, and their number.
-#[derive(Clone, Copy, Debug)]
+#[derive(Clone, Copy)]
 struct Groups {
     count: u32,
     number: u128,

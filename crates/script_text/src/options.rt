@@ -15,7 +15,7 @@ use xdp_state::Mode;
 pub const WHOLE_SNAP: u32 = 262_144;
 
 /// The second word of a line of `xdp-loader`, `xdp-filter` or `xdpdump`.
-#[derive(Clone, Copy, Debug, PartialEq, Eq)]
+#[derive(Clone, Copy)]
 pub enum Verb {
     LoaderLoad,
     LoaderUnload,
@@ -31,7 +31,7 @@ pub enum Verb {
 }
 
 /// An option whose value is the next word.
-#[derive(Clone, Copy, Debug, PartialEq, Eq)]
+#[derive(Clone, Copy)]
 pub enum Setting {
     Mode,
     Policy,
@@ -46,7 +46,7 @@ pub enum Setting {
 }
 
 /// An option whose value is the next word, which is kept as it is.
-#[derive(Clone, Copy, Debug, PartialEq, Eq)]
+#[derive(Clone, Copy)]
 pub enum Label {
     Name,
     Section,
@@ -54,7 +54,7 @@ pub enum Label {
 }
 
 /// An option without a value.
-#[derive(Clone, Copy, Debug, PartialEq, Eq)]
+#[derive(Clone, Copy)]
 pub enum Switch {
     Keep,
     Remove,
@@ -62,7 +62,7 @@ pub enum Switch {
 }
 
 /// What a word is that is no option's value.
-#[derive(Clone, Copy, Debug, PartialEq, Eq)]
+#[derive(Clone, Copy)]
 pub enum Role {
     Own,
     Setting(Setting),
@@ -72,7 +72,7 @@ pub enum Role {
 }
 
 /// What the options of a line give. A setting that is given has its value, or the rule that the value breaks.
-#[derive(Clone, Copy, Debug, PartialEq, Eq)]
+#[derive(Clone, Copy)]
 pub struct Given {
     pub mode: Option<Result<Mode, Rule>>,
     pub policy: Option<Result<Policy, Rule>>,

@@ -10,7 +10,7 @@ fn separator_in(word: &[u8], separator: u8) -> Option<usize>
 }
 
 /// A part of a word, and what stands behind the separator that ends it, where one does.
-#[derive(Clone, Copy, Debug)]
+#[derive(Clone, Copy)]
 pub struct Part<'a> {
     pub part: &'a [u8],
     pub behind: Option<&'a [u8]>,

@@ -7,7 +7,7 @@ use crate::numbers::print_number;
 use xio::Printer;
 
 /// A piece of a printed line.
-#[derive(Clone, Copy, Debug)]
+#[derive(Clone, Copy)]
 pub enum Piece<'a> {
     Text(&'a [u8]),
     /// A number in decimal digits.

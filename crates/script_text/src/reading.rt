@@ -7,7 +7,7 @@ use crate::rule::Rule;
 use xio::OutOfMemory;
 
 /// Why a line isn't read.
-#[derive(Clone, Copy, Debug, PartialEq, Eq)]
+#[derive(Clone, Copy)]
 pub enum LineEnd {
     BadLine { rule: Rule },
     OutOfMemory,

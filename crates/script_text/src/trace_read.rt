@@ -29,7 +29,7 @@ impl From<OutOfMemory> for TraceEnd {
 }
 
 /// The counts of a trace, as far as its lines are read.
-#[derive(Debug, Drop)]
+#[derive(Drop)]
 pub struct Reading {
     /// of the phases before the last one
     pub ended: Choices,

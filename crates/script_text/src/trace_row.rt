@@ -9,7 +9,7 @@ use crate::vocabulary::action_of;
 
 /// What a line of the trace says of a packet: its processor, its place from 0 among that processor's packets of the phase, and
 /// with how many publications it was carried.
-#[derive(Clone, Copy, Debug, PartialEq, Eq)]
+#[derive(Clone, Copy)]
 pub struct CountRow {
     pub processor: u32,
     pub place: u32,

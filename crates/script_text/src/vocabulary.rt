@@ -236,7 +236,7 @@ fn side_of(word: &[u8]) -> Option<u8>
 }
 
 /// What bits have names, of which lists are made.
-#[derive(Clone, Copy, Debug, PartialEq, Eq)]
+#[derive(Clone, Copy)]
 pub enum BitNames {
     /// Those of the protocols are the features' too.
     Features,

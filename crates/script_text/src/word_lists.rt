@@ -14,7 +14,7 @@ use filter_rules::{RuleKind, features, flags};
 use xio::Printer;
 
 /// Which of a packet's two ends a rule asks for.
-#[derive(Clone, Copy, Debug, PartialEq, Eq)]
+#[derive(Clone, Copy)]
 pub enum Directions {
     Source,
     Target,
@@ -22,7 +22,7 @@ pub enum Directions {
 }
 
 /// Which protocols a rule on a port asks for.
-#[derive(Clone, Copy, Debug, PartialEq, Eq)]
+#[derive(Clone, Copy)]
 pub enum Protocols {
     Tcp,
     Udp,
@@ -30,7 +30,7 @@ pub enum Protocols {
 }
 
 /// On which sides of programs packets are captured.
-#[derive(Clone, Copy, Debug, PartialEq, Eq)]
+#[derive(Clone, Copy)]
 pub enum Sides {
     Entry,
     Exit,
